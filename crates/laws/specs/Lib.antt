@@ -1,0 +1,9 @@
+-- General definitions and laws: no word of the desk. A file X holds definitions alone, X/Laws what follows from them.
+pub mod Tests
+pub mod Lists
+pub mod Bytes
+pub mod Cut
+pub mod Order
+pub mod Table
+pub mod Loops
+pub mod Kit

@@ -1,0 +1,453 @@
+-- Laws of loops over a list: what the whole gives is what is kept and the rest give together.
+-- A turn at i is given by Step l i x (step-cut for blocks, step-byte for bytes), the end by End l i (end-cut, end-list).
+use mathlib.Core.Path.{_≡_, refl, sym, ap, ap₂, _∙_}
+use mathlib.Core.Bool.{Bool, true, false, cond, _&&_, _||_}
+use mathlib.Core.Option.{Option, none, some}
+use mathlib.Core.List.{List, [], _∷_, _++_, map, append-assoc, append-nil}
+use Prim.Native.Nat.{ℕ, zero, suc, _+_, _-_, _/_, _≤_, _<_}
+use native.Mathlib.Nat.{add-zero}
+use native.Mathlib.Numerals.{add-one}
+use native.Mathlib.Omega.{arith}
+use lib.Dec.{eqb}
+use lib.ListN.{length, take, drop, getD, set, length-append, length-drop, length-map, take-append-drop, drop-of-length-le}
+use lib.Seq.{take-add, take-suc, take-all, take-at, take-take, take-append-le, drop-cons, drop-drop, drop-append-add, set-at, getD-at, length-take-le}
+use Rattle.laws.specs.Tests.{_and_, _or_, neg, is, below}
+use Rattle.laws.specs.Tests.Laws.{below-more, and-true, or-false, or-no}
+use Rattle.laws.specs.Lists.{same, further, find, place, has, every, apart, count, until, total}
+use Rattle.laws.specs.Cut.{cut, block}
+use Rattle.laws.specs.Cut.Laws.{drop-cut, drop-cut-end}
+use Rattle.laws.specs.Lists.Laws.{map-append, has-append, has-no-place, find-append-second, place-append-second, until-all, until-hit}
+
+-- what a loop has at its end
+pub at-end : {A : Type 0} (f : ℕ → A) {x : A} {k m : ℕ} → x ≡ f k → k ≤ m → m ≤ k → x ≡ f m
+at-end f {x} {k} {m} e l r = let q : k ≡ m = omega arith in cc
+
+-- a test of the numbers below k, one number more
+pub below-go : (p : ℕ → Bool) (k : ℕ) (a t : Bool) → a ≡ below p k → t ≡ p k → (a && t) ≡ below p (k + 1)
+unfolding _and_
+below-go p k a t e q = rw (e, q) (sym (below-more p k))
+
+-- ---- the step and the end
+
+-- what is left of l at i is x, then what is left at i + 1
+pub record Step {X : Type 0} (l : List X) (i : ℕ) (x : X) : Type 0 where
+  pub rest : drop i l ≡ x ∷ drop (i + 1) l
+
+-- nothing is left of l at i
+pub record End {X : Type 0} (l : List X) (i : ℕ) : Type 0 where
+  pub rest : drop i l ≡ []
+
+pub step-byte : (b : List ℕ) (i : ℕ) → i < length b → Step b i (getD b i 0)
+step-byte b i h = record { rest = rw (add-one, drop-cons b i 0) }
+
+module _ {X : Type 0} where
+  pub step-cut : (w : ℕ) (b : List X) (i : ℕ) → i < length b / w → Step (cut w b) i (block w b i)
+  step-cut w b i h = record { rest = drop-cut w b i h }
+
+  pub end-cut : (w : ℕ) (b : List X) (i : ℕ) → length b / w ≤ i → End (cut w b) i
+  end-cut w b i h = record { rest = drop-cut-end w b i h }
+
+  pub end-list : (l : List X) (i : ℕ) → length l ≤ i → End l i
+  end-list l i h = record { rest = drop-of-length-le l {i = i} h }
+
+  pub step-inside : (l : List X) (i : ℕ) (x : X) → Step l i x → i < length l
+  step-inside l i x s = let n : length l - i ≡ suc (length (drop (i + 1) l)) = sym (length-drop i l) ∙ ap length (s .rest) in omega arith
+
+  pub step-take : (l : List X) (i : ℕ) (x : X) → Step l i x → take (i + 1) l ≡ take i l ++ x ∷ []
+  step-take l i x s = take-add i 1 l ∙ ap (λ r. take i l ++ take 1 r) (s .rest)
+
+  pub step-whole : (l : List X) (i : ℕ) (x : X) → Step l i x → l ≡ take i l ++ x ∷ drop (i + 1) l
+  step-whole l i x s = sym (take-append-drop i l) ∙ ap (λ r. take i l ++ r) (s .rest)
+
+  pub end-whole : (l : List X) (i : ℕ) → End l i → take i l ≡ l
+  end-whole l i s = sym (append-nil (take i l)) ∙ ap (λ r. take i l ++ r) (sym (s .rest)) ∙ take-append-drop i l
+
+-- ---- in general
+
+-- a loop that keeps a
+module _ {A X R : Type 0} (f : A → List X → R) (g : A → X → A) (turn : (a : A) (x : X) (xs : List X) → f a (x ∷ xs) ≡ f (g a x) xs) (l : List X) where
+  pub walk-start : (a : A) → f a l ≡ f a (drop 0 l)
+  walk-start a = refl
+
+  pub walk-go : {w : R} (a : A) {i : ℕ} {x : X} → w ≡ f a (drop i l) → Step l i x → w ≡ f (g a x) (drop (i + 1) l)
+  walk-go a {i} {x} e s = e ∙ ap (f a) (s .rest) ∙ turn a x (drop (i + 1) l)
+
+  pub walk-end : {w : R} (a : A) {i : ℕ} → w ≡ f a (drop i l) → End l i → w ≡ f a []
+  walk-end a e s = e ∙ ap (f a) (s .rest)
+
+-- a loop that may stop: it goes on, it stops, it ends
+module _ {A X R : Type 0} (f : A → List X → R) (stop : A → X → Bool) (hit : A → X → R) (next : A → X → A)
+    (turn : (a : A) (x : X) (xs : List X) → f a (x ∷ xs) ≡ cond (stop a x) (hit a x) (f (next a x) xs)) (l : List X) where
+  seek : {w : R} (a : A) {i : ℕ} {x : X} → w ≡ f a (drop i l) → Step l i x → w ≡ cond (stop a x) (hit a x) (f (next a x) (drop (i + 1) l))
+  seek a {i} {x} e s = e ∙ ap (f a) (s .rest) ∙ turn a x (drop (i + 1) l)
+
+  pub seek-go : {w : R} (a : A) {i : ℕ} {x : X} → w ≡ f a (drop i l) → Step l i x → stop a x ≡ false → w ≡ f (next a x) (drop (i + 1) l)
+  seek-go a e s n = seek a e s ∙ rw n
+
+  pub seek-hit : {w : R} (a : A) {i : ℕ} {x : X} → w ≡ f a (drop i l) → Step l i x → stop a x ≡ true → hit a x ≡ w
+  seek-hit a e s n = sym (seek a e s ∙ rw n)
+
+  pub seek-end : {w : R} (a : A) {i : ℕ} → w ≡ f a (drop i l) → End l i → f a [] ≡ w
+  seek-end a e s = sym (e ∙ ap (f a) (s .rest))
+
+-- ---- a fold
+
+module _ {S X : Type 0} (f : S → X → S) where
+  -- what s becomes, by each element in turn
+  unfoldable pub foldFrom : S → List X → S
+  foldFrom s [] = s
+  foldFrom s (x ∷ xs) = foldFrom (f s x) xs
+
+  pub fold-append : (s : S) (l r : List X) → foldFrom s (l ++ r) ≡ foldFrom (foldFrom s l) r
+  unfolding foldFrom
+  fold-append s [] r = refl
+  fold-append s (x ∷ xs) r = fold-append (f s x) xs r
+
+  pub rest-go : {l : List X} {w : S} (a : S) {i : ℕ} {x : X} → w ≡ foldFrom a (drop i l) → Step l i x → w ≡ foldFrom (f a x) (drop (i + 1) l)
+  unfolding foldFrom
+  rest-go a e s = e ∙ ap (foldFrom a) (s .rest)
+
+  pub rest-end : {l : List X} {w : S} (a : S) {i : ℕ} → w ≡ foldFrom a (drop i l) → End l i → a ≡ w
+  unfolding foldFrom
+  rest-end a e s = sym (e ∙ ap (foldFrom a) (s .rest))
+
+-- ---- helpers of count and place
+
+bit : (t : Bool) (n m : ℕ) → n + cond t (suc m) m ≡ n + cond t 1 0 + m
+bit true n m = omega arith
+bit false n m = omega arith
+
+abbrev up : ℕ → ℕ → ℕ
+up k zero = 0
+up k (suc n) = k + suc n
+
+up-further : (k n : ℕ) → up (k + 1) n ≡ up k (further n)
+unfolding further
+up-further k zero = refl
+up-further k (suc n) = omega arith
+
+up-zero : (n : ℕ) → up 0 n ≡ n
+up-zero zero = refl
+up-zero (suc n) = omega arith
+
+module _ {X : Type 0} where
+  -- ---- every, has, apart: a is kept, t is found at i
+
+  every-turn : (p : X → Bool) (a : Bool) (x : X) (xs : List X) → (a and every p (x ∷ xs)) ≡ ((a && p x) and every p xs)
+  unfolding _and_ every
+  every-turn p true x xs = refl
+  every-turn p false x xs = refl
+
+  pub every-start : (p : X → Bool) (l : List X) → every p l ≡ (true and every p (drop 0 l))
+  unfolding _and_
+  every-start p l = refl
+
+  pub every-go : (p : X → Bool) {l : List X} {w : Bool} (a : Bool) {t : Bool} {i : ℕ} {x : X}
+      → w ≡ (a and every p (drop i l)) → Step l i x → t ≡ p x → w ≡ ((a && t) and every p (drop (i + 1) l))
+  every-go p {l} a e s q = rw q (walk-go (λ (a : Bool) (r : List X). a and every p r) (λ (a : Bool) (x : X). a && p x) (every-turn p) l a e s)
+
+  pub every-end : (p : X → Bool) {l : List X} {w : Bool} (a : Bool) {i : ℕ} → w ≡ (a and every p (drop i l)) → End l i → a ≡ w
+  unfolding every
+  every-end p a e s = sym (e ∙ ap (λ (r : List X). a and every p r) (s .rest) ∙ and-true a)
+
+  has-turn : (p : X → Bool) (a : Bool) (x : X) (xs : List X) → (a or has p (x ∷ xs)) ≡ ((a || p x) or has p xs)
+  unfolding _or_ has
+  has-turn p true x xs = refl
+  has-turn p false x xs = refl
+
+  pub has-start : (p : X → Bool) (l : List X) → has p l ≡ (false or has p (drop 0 l))
+  unfolding _or_
+  has-start p l = refl
+
+  pub has-go : (p : X → Bool) {l : List X} {w : Bool} (a : Bool) {t : Bool} {i : ℕ} {x : X}
+      → w ≡ (a or has p (drop i l)) → Step l i x → t ≡ p x → w ≡ ((a || t) or has p (drop (i + 1) l))
+  has-go p {l} a e s q = rw q (walk-go (λ (a : Bool) (r : List X). a or has p r) (λ (a : Bool) (x : X). a || p x) (has-turn p) l a e s)
+
+  pub has-end : (p : X → Bool) {l : List X} {w : Bool} (a : Bool) {i : ℕ} → w ≡ (a or has p (drop i l)) → End l i → a ≡ w
+  unfolding has
+  has-end p a e s = sym (e ∙ ap (λ (r : List X). a or has p r) (s .rest) ∙ or-false a)
+
+  apart-turn : (c : X → X → Bool) (a : Bool) (x : X) (xs : List X) → (a and apart c (x ∷ xs)) ≡ ((a && every (λ y. neg (c x y)) xs) and apart c xs)
+  unfolding _and_ apart
+  apart-turn c true x xs = refl
+  apart-turn c false x xs = refl
+
+  pub apart-start : (c : X → X → Bool) (l : List X) → apart c l ≡ (true and apart c (drop 0 l))
+  unfolding _and_
+  apart-start c l = refl
+
+  pub apart-go : (c : X → X → Bool) {l : List X} {w : Bool} (a : Bool) {t : Bool} {i : ℕ} {x : X}
+      → w ≡ (a and apart c (drop i l)) → Step l i x → t ≡ every (λ y. neg (c x y)) (drop (i + 1) l) → w ≡ ((a && t) and apart c (drop (i + 1) l))
+  apart-go c {l} a {i = i} {x = x} e s q = rw q (e ∙ ap (λ (r : List X). a and apart c r) (s .rest) ∙ apart-turn c a x (drop (i + 1) l))
+
+  pub apart-end : (c : X → X → Bool) {l : List X} {w : Bool} (a : Bool) {i : ℕ} → w ≡ (a and apart c (drop i l)) → End l i → a ≡ w
+  unfolding apart
+  apart-end c a e s = sym (e ∙ ap (λ (r : List X). a and apart c r) (s .rest) ∙ and-true a)
+
+  -- ---- count, total: n is kept, k is found at i
+
+  count-turn : (p : X → Bool) (n : ℕ) (x : X) (xs : List X) → n + count p (x ∷ xs) ≡ n + cond (p x) 1 0 + count p xs
+  unfolding count
+  count-turn p n x xs = bit (p x) n (count p xs)
+
+  pub count-start : (p : X → Bool) (l : List X) → count p l ≡ 0 + count p (drop 0 l)
+  count-start p l = omega arith
+
+  pub count-go : (p : X → Bool) {l : List X} {w : ℕ} (n : ℕ) {k i : ℕ} {x : X}
+      → w ≡ n + count p (drop i l) → Step l i x → k ≡ cond (p x) 1 0 → w ≡ n + k + count p (drop (i + 1) l)
+  count-go p {l} n e s q = rw q (walk-go (λ (n : ℕ) (r : List X). n + count p r) (λ (n : ℕ) (x : X). n + cond (p x) 1 0) (count-turn p) l n e s)
+
+  pub count-end : (p : X → Bool) {l : List X} {w : ℕ} (n : ℕ) {i : ℕ} → w ≡ n + count p (drop i l) → End l i → n ≡ w
+  unfolding count
+  count-end p n e s = sym (e ∙ ap (λ (r : List X). n + count p r) (s .rest) ∙ add-zero n)
+
+  total-turn : (g : X → ℕ) (n : ℕ) (x : X) (xs : List X) → n + total g (x ∷ xs) ≡ n + g x + total g xs
+  unfolding total
+  total-turn g n x xs = omega arith
+
+  pub total-start : (g : X → ℕ) (l : List X) → total g l ≡ 0 + total g (drop 0 l)
+  total-start g l = omega arith
+
+  pub total-go : (g : X → ℕ) {l : List X} {w : ℕ} (n : ℕ) {k i : ℕ} {x : X}
+      → w ≡ n + total g (drop i l) → Step l i x → k ≡ g x → w ≡ n + k + total g (drop (i + 1) l)
+  total-go g {l} n e s q = rw q (walk-go (λ (n : ℕ) (r : List X). n + total g r) (λ (n : ℕ) (x : X). n + g x) (total-turn g) l n e s)
+
+  pub total-end : (g : X → ℕ) {l : List X} {w : ℕ} (n : ℕ) {i : ℕ} → w ≡ n + total g (drop i l) → End l i → n ≡ w
+  unfolding total
+  total-end g n e s = sym (e ∙ ap (λ (r : List X). n + total g r) (s .rest) ∙ add-zero n)
+
+  -- ---- find, with h what is made of the answer
+
+  find-turn : {R : Type 0} (p : X → Bool) (h : Option X → R) (x : X) (xs : List X) → h (find p (x ∷ xs)) ≡ cond (p x) (h (some x)) (h (find p xs))
+  unfolding find
+  find-turn p h x xs = by (p x)
+    where
+      by : (t : Bool) → h (cond t (some x) (find p xs)) ≡ cond t (h (some x)) (h (find p xs))
+      by true = refl
+      by false = refl
+
+  pub find-go : {R : Type 0} (p : X → Bool) (h : Option X → R) {l : List X} {w : R} {i : ℕ} {x : X}
+      → w ≡ h (find p (drop i l)) → Step l i x → p x ≡ false → w ≡ h (find p (drop (i + 1) l))
+  find-go p h {l} {i = i} {x = x} e s n = e ∙ ap (λ r. h (find p r)) (s .rest) ∙ find-turn p h x (drop (i + 1) l) ∙ rw n
+
+  pub find-hit : {R : Type 0} (p : X → Bool) (h : Option X → R) {l : List X} {w : R} {i : ℕ} {x : X}
+      → w ≡ h (find p (drop i l)) → Step l i x → p x ≡ true → h (some x) ≡ w
+  find-hit p h {l} {i = i} {x = x} e s n = sym (e ∙ ap (λ r. h (find p r)) (s .rest) ∙ find-turn p h x (drop (i + 1) l) ∙ rw n)
+
+  pub find-end : {R : Type 0} (p : X → Bool) (h : Option X → R) {l : List X} {w : R} {i : ℕ} → w ≡ h (find p (drop i l)) → End l i → h none ≡ w
+  unfolding find
+  find-end p h e s = sym (e ∙ ap (λ r. h (find p r)) (s .rest))
+
+  -- ---- place
+
+  -- the place in the rest, where k elements stand before it
+  unfoldable pub placeFrom : ℕ → (X → Bool) → List X → ℕ
+  placeFrom k p [] = 0
+  placeFrom k p (x ∷ xs) = cond (p x) (k + 1) (placeFrom (k + 1) p xs)
+
+  place-up : (p : X → Bool) (k : ℕ) (l : List X) → placeFrom k p l ≡ up k (place p l)
+  unfolding placeFrom place
+  place-up p k [] = refl
+  place-up p k (x ∷ xs) = by (p x) (place-up p (k + 1) xs)
+    where
+      by : (t : Bool) → placeFrom (k + 1) p xs ≡ up (k + 1) (place p xs) → cond t (k + 1) (placeFrom (k + 1) p xs) ≡ up k (cond t (suc zero) (further (place p xs)))
+      by true h = refl
+      by false h = h ∙ up-further k (place p xs)
+
+  place-turn : (p : X → Bool) (k : ℕ) (x : X) (xs : List X) → placeFrom k p (x ∷ xs) ≡ cond (p x) (k + 1) (placeFrom (k + 1) p xs)
+  unfolding placeFrom
+  place-turn p k x xs = refl
+
+  pub place-start : (p : X → Bool) (l : List X) → place p l ≡ placeFrom 0 p (drop 0 l)
+  place-start p l = sym (place-up p 0 l ∙ up-zero (place p l))
+
+  pub place-go : (p : X → Bool) {l : List X} {w i : ℕ} {x : X}
+      → w ≡ placeFrom i p (drop i l) → Step l i x → p x ≡ false → w ≡ placeFrom (i + 1) p (drop (i + 1) l)
+  place-go p {l} {i = i} e s n = seek-go (λ (k : ℕ) (r : List X). placeFrom k p r) (λ (k : ℕ) (x : X). p x) (λ (k : ℕ) (x : X). k + 1) (λ (k : ℕ) (x : X). k + 1) (place-turn p) l i e s n
+
+  pub place-hit : (p : X → Bool) {l : List X} {w i : ℕ} {x : X} → w ≡ placeFrom i p (drop i l) → Step l i x → p x ≡ true → i + 1 ≡ w
+  place-hit p {l} {i = i} e s n = seek-hit (λ (k : ℕ) (r : List X). placeFrom k p r) (λ (k : ℕ) (x : X). p x) (λ (k : ℕ) (x : X). k + 1) (λ (k : ℕ) (x : X). k + 1) (place-turn p) l i e s n
+
+  pub place-end : (p : X → Bool) {l : List X} {w i : ℕ} → w ≡ placeFrom i p (drop i l) → End l i → 0 ≡ w
+  unfolding placeFrom
+  place-end p {i = i} e s = sym (e ∙ ap (placeFrom i p) (s .rest))
+
+  -- ---- until: how many stand before the first that passes
+
+  until-by : (t : Bool) (n : ℕ) (x : X) (l : List X) → n + length (cond t [] (x ∷ l)) ≡ cond t n (n + 1 + length l)
+  until-by true n x l = omega arith
+  until-by false n x l = omega arith
+
+  until-turn : (p : X → Bool) (n : ℕ) (x : X) (xs : List X) → n + length (until p (x ∷ xs)) ≡ cond (p x) n (n + 1 + length (until p xs))
+  unfolding until
+  until-turn p n x xs = until-by (p x) n x (until p xs)
+
+  pub until-rest-start : (p : X → Bool) (l : List X) → length (until p l) ≡ 0 + length (until p (drop 0 l))
+  until-rest-start p l = omega arith
+
+  pub until-rest-go : (p : X → Bool) {l : List X} {w i : ℕ} {x : X}
+      → w ≡ i + length (until p (drop i l)) → Step l i x → p x ≡ false → w ≡ i + 1 + length (until p (drop (i + 1) l))
+  until-rest-go p {l} {i = i} e s n = seek-go (λ (n : ℕ) (r : List X). n + length (until p r)) (λ (n : ℕ) (x : X). p x) (λ (n : ℕ) (x : X). n) (λ (n : ℕ) (x : X). n + 1) (until-turn p) l i e s n
+
+  pub until-rest-hit : (p : X → Bool) {l : List X} {w i : ℕ} {x : X} → w ≡ i + length (until p (drop i l)) → Step l i x → p x ≡ true → i ≡ w
+  until-rest-hit p {l} {i = i} e s n = seek-hit (λ (n : ℕ) (r : List X). n + length (until p r)) (λ (n : ℕ) (x : X). p x) (λ (n : ℕ) (x : X). n) (λ (n : ℕ) (x : X). n + 1) (until-turn p) l i e s n
+
+  pub until-rest-end : (p : X → Bool) {l : List X} {w i : ℕ} → w ≡ i + length (until p (drop i l)) → End l i → i ≡ w
+  unfolding until
+  until-rest-end p {i = i} e s = sym (e ∙ ap (λ (r : List X). i + length (until p r)) (s .rest) ∙ add-zero i)
+
+  -- ---- a search: i elements are passed by, of which none passes the test
+
+  pub search-start : (p : X → Bool) → has p [] ≡ false
+  unfolding has
+  search-start p = refl
+
+  module _ (p : X → Bool) {l : List X} {i : ℕ} {x : X} (no : has p (take i l) ≡ false) (s : Step l i x) where
+    pub search-miss : p x ≡ false → has p (take (i + 1) l) ≡ false
+    unfolding has
+    search-miss e = ap (has p) (step-take l i x s) ∙ has-append p (take i l) (x ∷ []) ∙ or-no _ _ no (or-no _ _ e refl)
+
+    pub search-place : p x ≡ true → i + 1 ≡ place p l
+    search-place e =
+        let h : i < length l = step-inside l i x s in
+        let n : length (take i l) ≡ i = length-take-le i l (omega arith) in
+        let q : place p l ≡ suc (length (take i l)) = ap (place p) (step-whole l i x s) ∙ place-append-second p (take i l) x (drop (i + 1) l) no e in
+        omega arith
+
+    pub search-find : p x ≡ true → find p l ≡ some x
+    unfolding find
+    search-find e = ap (find p) (step-whole l i x s) ∙ find-append-second p (take i l) (x ∷ drop (i + 1) l) no ∙ rw e
+
+    pub search-has : p x ≡ true → has p l ≡ true
+    unfolding has _or_
+    search-has e = ap (has p) (step-whole l i x s) ∙ has-append p (take i l) (x ∷ drop (i + 1) l) ∙ rw (no, e)
+
+    pub search-until : p x ≡ true → i ≡ length (until p l)
+    search-until e =
+        let h : i < length l = step-inside l i x s in
+        let q : getD l i x ∷ drop (suc i) l ≡ x ∷ drop (i + 1) l = sym (drop-cons l i x h) ∙ s .rest in
+        let r : getD l i x ≡ x = cc in
+        until-hit p l i x h no (ap p r ∙ e)
+
+  module _ (p : X → Bool) {l : List X} {i : ℕ} (no : has p (take i l) ≡ false) (s : End l i) where
+    pub search-end : has p l ≡ false
+    search-end = ap (has p) (sym (end-whole l i s)) ∙ no
+
+    pub search-end-place : 0 ≡ place p l
+    search-end-place = sym (has-no-place p l search-end)
+
+    pub search-end-until : until p l ≡ l
+    search-end-until = until-all p l search-end
+
+  -- ---- a rewriting in place, by a rule g that reads of the list only what view shows, and keeps it
+
+  unfoldable pub done : (List X → X → X) → List X → ℕ → List X
+  done g l s = map (g l) (take s l) ++ drop s l
+
+  pub done-none : (g : List X → X → X) (l : List X) → l ≡ done g l 0
+  unfolding done
+  done-none g l = refl
+
+  pub done-all : (g : List X → X → X) (l : List X) (s : ℕ) → length l ≤ s → done g l s ≡ map (g l) l
+  unfolding done
+  done-all g l s h = rw (take-all s l h, drop-of-length-le l h) (append-nil (map (g l) l))
+
+  pub done-length : (g : List X → X → X) (l : List X) (s : ℕ) → length (done g l s) ≡ length l
+  unfolding done
+  done-length g l s =
+      length-append (map (g l) (take s l)) (drop s l) ∙ ap (λ n. n + length (drop s l)) (length-map (take s l) (g l))
+      ∙ sym (length-append (take s l) (drop s l)) ∙ ap length (take-append-drop s l)
+
+  module _ {W : Type 0} (view : X → W) (g : List X → X → X)
+    (keeps : (l : List X) (y : X) → view (g l y) ≡ view y)
+    (reads : (l r : List X) (y : X) → map view l ≡ map view r → g l y ≡ g r y)
+    (l : List X) where
+    seen-map : (k r : List X) → map view (map (g k) r) ≡ map view r
+    seen-map k [] = refl
+    seen-map k (y ∷ ys) = ap₂ _∷_ (keeps k y) (seen-map k ys)
+
+    pub done-seen : (s : ℕ) → map view (done g l s) ≡ map view l
+    unfolding done
+    done-seen s =
+        map-append view (map (g l) (take s l)) (drop s l) ∙ ap (λ z. z ++ map view (drop s l)) (seen-map l (take s l))
+        ∙ sym (map-append view (take s l) (drop s l)) ∙ ap (map view) (take-append-drop s l)
+
+    opened : (s : ℕ) (d : X) → s < length l → done g l s ≡ map (g l) (take s l) ++ getD l s d ∷ drop (suc s) l
+    unfolding done
+    opened s d h = ap (λ w. map (g l) (take s l) ++ w) (drop-cons l s d h)
+
+    closed : (s : ℕ) (d : X) → s < length l → done g l (s + 1) ≡ map (g l) (take s l) ++ g l (getD l s d) ∷ drop (suc s) l
+    unfolding done
+    closed s d h =
+        rw (add-one s, take-suc l s d h, map-append (g l) (take s l) (getD l s d ∷ []))
+        (append-assoc (map (g l) (take s l)) (g l (getD l s d) ∷ []) (drop (suc s) l))
+
+    -- one element more: b is a with the rule's result put at s
+    pub done-more : (s : ℕ) (d : X) → s < length l → (a b : List X) → a ≡ done g l s → b ≡ set a s (g a (getD a s d)) → b ≡ done g l (s + 1)
+    done-more s d h a b e q =
+        let z : length (map (g l) (take s l)) ≡ s = length-map (take s l) (g l) ∙ length-take-le s l (omega arith) in
+        let i : done g l s ≡ map (g l) (take s l) ++ getD l s d ∷ drop (suc s) l = opened s d h in
+        let y : getD a s d ≡ getD l s d = ap (λ w. getD w s d) (e ∙ i) ∙ getD-at (map (g l) (take s l)) (getD l s d) (drop (suc s) l) d s z in
+        let r : g a (getD a s d) ≡ g l (getD l s d) = ap (g a) y ∙ reads a l _ (ap (map view) e ∙ done-seen s) in
+        q ∙ ap₂ (λ w x. set w s x) (e ∙ i) r ∙ set-at (map (g l) (take s l)) (getD l s d) (drop (suc s) l) (g l (getD l s d)) s z ∙ sym (closed s d h)
+
+  -- a rule that reads nothing but the element
+  pub done-more-alone : (f : X → X) (l : List X) (s : ℕ) (d : X) → s < length l → (a b : List X) → a ≡ done (λ r y. f y) l s → b ≡ set a s (f (getD a s d)) → b ≡ done (λ r y. f y) l (s + 1)
+  done-more-alone f l s d h a b e q = done-more (λ (y : X). tt {0}) (λ r y. f y) (λ r y. refl) (λ k r y v. refl) l s d h a b e q
+
+  -- ---- p laid over the first elements of l
+
+  unfoldable pub over : List X → List X → List X
+  over p l = p ++ drop (length p) l
+
+  pub over-none : (l : List X) (s : ℕ) → s ≤ length l → l ≡ over (take s l) l
+  unfolding over
+  over-none l s h = sym (rw (length-take-le s l h) (take-append-drop s l))
+
+  pub over-more : (p l a b : List X) (i : ℕ) (y : X) → i ≡ length p → i < length l → a ≡ over p l → b ≡ set a i y → b ≡ over (p ++ y ∷ []) l
+  unfolding over
+  over-more p l a b i y e h f q =
+      let n : length (p ++ y ∷ []) ≡ suc (length p) = simp length-append (omega arith) in
+      q ∙ ap (λ w. set w i y) (f ∙ ap (λ w. p ++ w) (drop-cons l (length p) y (omega arith)))
+      ∙ set-at p (getD l (length p) y) (drop (suc (length p)) l) y i (sym e)
+      ∙ sym (rw n (append-assoc p (y ∷ []) (drop (suc (length p)) l)))
+
+  pub over-length : (p l : List X) → length p ≤ length l → length (over p l) ≡ length l
+  unfolding over
+  over-length p l h = rw (length-append p (drop (length p) l), length-drop (length p) l) (omega arith)
+
+  pub over-take : (p l : List X) (s : ℕ) → s ≡ length p → take s (over p l) ≡ p
+  unfolding over
+  over-take p l s e = take-at p (drop (length p) l) s (sym e)
+
+  pub over-front : (l r : List X) (s m : ℕ) → s ≤ length l → m ≤ s → take m (over (take s l ++ r) l) ≡ take m l
+  unfolding over
+  over-front l r s m h g =
+      let z : length (take s l) ≡ s = length-take-le s l h in
+      ap (take m) (append-assoc (take s l) r _) ∙ take-append-le m (take s l) _ (omega arith) ∙ take-take m s l g
+
+  -- laid over what is laid over already
+  pub over-over : (p r l : List X) → over (p ++ r) (over p l) ≡ over (p ++ r) l
+  unfolding over
+  over-over p r l =
+      ap (λ w. (p ++ r) ++ w) (ap (λ n. drop n (p ++ drop (length p) l)) (length-append p r) ∙ drop-append-add p (drop (length p) l) (length r)
+      ∙ drop-drop (length r) (length p) l ∙ ap (λ n. drop n l) (sym (length-append p r)))
+
+-- ---- two lists of numbers compared, element by element
+
+same-turn : (a : Bool) (x y : ℕ) (xs ys : List ℕ) → (a and same (x ∷ xs) (y ∷ ys)) ≡ ((a && eqb x y) and same xs ys)
+unfolding _and_ same is
+same-turn true x y xs ys = refl
+same-turn false x y xs ys = refl
+
+pub same-start : (b d : List ℕ) → same b d ≡ (true and same (drop 0 b) (drop 0 d))
+unfolding _and_
+same-start b d = refl
+
+pub same-go : {b d : List ℕ} {w : Bool} (a : Bool) {t : Bool} {i x y : ℕ}
+    → w ≡ (a and same (drop i b) (drop i d)) → Step b i x → Step d i y → t ≡ eqb x y → w ≡ ((a && t) and same (drop (i + 1) b) (drop (i + 1) d))
+same-go {b} {d} a {i = i} {x = x} {y = y} e s r q = rw q (e ∙ ap₂ (λ (k m : List ℕ). a and same k m) (s .rest) (r .rest) ∙ same-turn a x y (drop (i + 1) b) (drop (i + 1) d))
+
+pub same-end : {b d : List ℕ} {w : Bool} (a : Bool) {i : ℕ} → w ≡ (a and same (drop i b) (drop i d)) → End b i → End d i → a ≡ w
+unfolding same
+same-end a e s r = sym (e ∙ ap₂ (λ (k m : List ℕ). a and same k m) (s .rest) (r .rest) ∙ and-true a)

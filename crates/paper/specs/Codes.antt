@@ -1,0 +1,54 @@
+-- "The code of each number stands in one fixed table": A53 is 53; 0 where a number has no code.
+use mathlib.Core.Bool.{cond}
+use mathlib.Core.List.{List, [], _∷_}
+use Prim.Native.Nat.{ℕ}
+use Rattle.laws.specs.Tests.{_or_, is}
+
+pub record Row : Type 0 where
+  pub number : ℕ
+  pub code : ℕ
+
+abbrev row : ℕ → ℕ → Row
+row number code = record { number = number; code = code }
+
+-- 0 is the acceptance, 30 and 31 are refusals of quantity text
+unfoldable pub table : List Row
+table =
+    row 0 1
+    ∷ row 3 53
+    ∷ row 4 78
+    ∷ row 5 4
+    ∷ row 6 51
+    ∷ row 7 55
+    ∷ row 8 22
+    ∷ row 9 23
+    ∷ row 10 62
+    ∷ row 11 46
+    ∷ row 12 42
+    ∷ row 13 49
+    ∷ row 14 57
+    ∷ row 15 50
+    ∷ row 16 52
+    ∷ row 30 42
+    ∷ row 31 46
+    ∷ []
+
+unfoldable pub codeIn : List Row → ℕ → ℕ
+codeIn [] number = 0
+codeIn (r ∷ rs) number = cond (is (r .number) number) (r .code) (codeIn rs number)
+
+unfoldable pub reasonCode : ℕ → ℕ
+reasonCode number = codeIn table number
+
+-- A01 beside an acceptance, A02 beside a refusal
+unfoldable pub statusCode : ℕ → ℕ
+statusCode number = cond (is number 0) 1 2
+
+-- how a submission is answered: an acknowledgement, 000's uninterpretable-message mail, or a desk notice
+pub data Reply : Type 0 where
+  acknowledgement : Reply
+  uninterpretableMessage : Reply
+  deskNotice : Reply
+
+unfoldable pub replyTo : ℕ → Reply
+replyTo number = cond (is number 1 or is number 17) deskNotice (cond (is number 2) uninterpretableMessage acknowledgement)

@@ -1,0 +1,162 @@
+-- "Blocks": the layout. With Check, the only file that reads or writes a field by its offset; Opening lays out the day block in this order.
+use mathlib.Core.Bool.{Bool}
+use mathlib.Core.List.{List, map}
+use Prim.Native.Nat.{ℕ, _+_, _-_, _*_}
+use Rattle.laws.specs.Tests.{_and_, is}
+use Rattle.laws.specs.Lists.{every}
+use Rattle.laws.specs.Bytes.{part, written, little, number}
+use Rattle.laws.specs.Cut.{cut}
+use Rattle.paper.specs.Check.{sealed}
+
+abbrev pub Bytes : Type 0
+Bytes = List ℕ
+
+abbrev pub Block : Type 0
+Block = List ℕ
+
+-- the whole blocks of some bytes
+abbrev pub blocks : Bytes → List Block
+blocks b = cut 512 b
+
+unfoldable pub zeros : Bytes → Bool
+zeros b = every (λ x. is x 0) b
+
+-- ---- every kind
+
+unfoldable pub kind : Block → ℕ
+kind b = number 1 0 b
+
+unfoldable pub nOf : Block → ℕ
+nOf b = number 1 1 b
+
+-- ---- the day block
+
+unfoldable pub lead : Block → ℕ
+lead d = number 2 2 d
+
+-- the clock + 10,080
+unfoldable pub clock : Block → ℕ
+clock d = number 2 4 d
+
+unfoldable pub dayOfBook : Block → Bytes
+dayOfBook d = part 8 8 d
+
+unfoldable pub area : Block → Bytes
+area d = part 24 16 d
+
+unfoldable pub receiver : Block → Bytes
+receiver b = part 40 16 b
+
+-- the bytes shown as 0
+unfoldable pub dayZeros : Block → Bool
+dayZeros d = zeros (part 6 2 d) and zeros (part 16 8 d) and zeros (part 56 452 d)
+
+-- ---- sender and series blocks
+
+-- the message version of a sender block, the series version of a series block
+unfoldable pub version : Block → ℕ
+version b = number 2 2 b
+
+-- the message id of a sender block, the series id of a series block
+unfoldable pub idOf : Block → Bytes
+idOf b = part 8 16 b
+
+-- ---- a sender block (its receiver stands where the day block's does)
+
+unfoldable pub seriesCount : Block → ℕ
+seriesCount s = number 2 4 s
+
+unfoldable pub sender : Block → Bytes
+sender s = part 24 16 s
+
+unfoldable pub dayOfMessage : Block → Bytes
+dayOfMessage s = part 56 8 s
+
+unfoldable pub nets : Block → Bytes
+nets s = part 108 400 s
+
+-- the bytes shown as 0, nets apart
+unfoldable pub senderZeros : Block → Bool
+senderZeros s = zeros (part 6 2 s) and zeros (part 64 44 s)
+
+-- ---- a series block
+
+unfoldable pub businessType : Block → ℕ
+businessType x = number 1 4 x
+
+unfoldable pub contractType : Block → ℕ
+contractType x = number 1 5 x
+
+unfoldable pub sendersSlot : Block → ℕ
+sendersSlot x = number 2 6 x
+
+unfoldable pub inArea : Block → Bytes
+inArea x = part 24 16 x
+
+unfoldable pub outArea : Block → Bytes
+outArea x = part 40 16 x
+
+unfoldable pub inParty : Block → Bytes
+inParty x = part 56 16 x
+
+unfoldable pub outParty : Block → Bytes
+outParty x = part 72 16 x
+
+-- in party and out party, in this order: what two series of one trade have in common
+unfoldable pub pair : Block → Bytes
+pair x = part 56 32 x
+
+unfoldable pub agreement : Block → Bytes
+agreement x = part 88 16 x
+
+-- state, first and partner slot
+unfoldable pub mark : Block → Bytes
+mark x = part 104 4 x
+
+unfoldable pub state : Block → ℕ
+state x = number 1 104 x
+
+unfoldable pub first : Block → ℕ
+first x = number 1 105 x
+
+unfoldable pub partner : Block → ℕ
+partner x = number 2 106 x
+
+-- the bytes of all hundred quantities
+unfoldable pub quantities : Block → Bytes
+quantities x = part 108 400 x
+
+-- number k, counted from 0, among the bytes of a hundred quantities or nets
+unfoldable pub entry : Bytes → ℕ → ℕ
+entry q k = number 4 (4 * k) q
+
+-- the quantity, or the net, at position k + 1
+unfoldable pub quantity : Block → ℕ → ℕ
+quantity x k = number 4 (108 + 4 * k) x
+
+-- the bytes of the positions above n
+unfoldable pub aboveN : ℕ → Block → Bytes
+aboveN n x = part (108 + 4 * n) (400 - 4 * n) x
+
+-- ---- "0 in a message": the bytes of a message's blocks that must be 0, capacity fields and quantities excepted
+
+unfoldable pub senderZerosInMessage : Block → Bool
+senderZerosInMessage s = zeros (part 6 2 s) and zeros (part 64 444 s)
+
+unfoldable pub seriesZerosInMessage : Block → Bool
+seriesZerosInMessage x = zeros (part 6 2 x) and zeros (part 104 4 x)
+
+-- ---- fields written
+
+unfoldable pub withClock : ℕ → Block → Block
+withClock minute d = sealed (written 4 (little 2 minute) d)
+
+-- the check is put right with the mark
+unfoldable pub withSendersSlot : ℕ → Block → Block
+withSendersSlot slot x = written 6 (little 2 slot) x
+
+unfoldable pub withMark : Bytes → Block → Block
+withMark m x = sealed (written 104 m x)
+
+unfoldable pub withNets : Bytes → Block → Block
+withNets v s = sealed (written 108 v s)

@@ -1,0 +1,30 @@
+-- Document 01 as definitions, section by section. No lemma stands here.
+-- Blocks
+pub mod Check
+pub mod Layout
+pub mod Ranges
+pub mod Ids
+-- EIC
+pub mod Eic
+-- Sound book
+pub mod Book
+pub mod Sound
+-- Submission: order of checks
+pub mod Message
+pub mod Rules
+pub mod Codes
+-- Marks and finals; what an acceptance writes
+pub mod Marks
+pub mod Nets
+pub mod Acceptance
+pub mod Finals
+-- Other calls
+pub mod Opening
+pub mod Clock
+pub mod Readings
+pub mod PlainRun
+pub mod QuantityText
+pub mod Listing
+-- Demand 3
+pub mod PlainRule
+pub mod Calls

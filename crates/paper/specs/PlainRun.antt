@@ -1,0 +1,24 @@
+-- "The plain run works marks and nets out afresh for any sound book and says yes exactly when all kept ones are true."
+use mathlib.Core.Bool.{Bool, false, cond}
+use mathlib.Core.List.{List}
+use Prim.Native.Nat.{ℕ}
+use Rattle.laws.specs.Tests.{_and_, _or_, neg}
+use Rattle.laws.specs.Lists.{same, every}
+use Rattle.paper.specs.declared.PlainRunAnswer.{PlainRunAnswer}
+use Rattle.paper.specs.Layout.{Bytes, Block, nOf, sender, mark, nets}
+use Rattle.paper.specs.Book.{dayBlock, used, isSender, isSeries, ownSeries}
+use Rattle.paper.specs.Sound.{sound}
+use Rattle.paper.specs.Marks.{markIn}
+use Rattle.paper.specs.Nets.{netsOf}
+
+unfoldable pub markTrue : ℕ → List Block → Block → Bool
+markTrue n us x = neg (isSeries x) or same (mark x) (markIn n us x)
+
+unfoldable pub netsTrue : List Block → Block → Bool
+netsTrue us s = neg (isSender s) or same (nets s) (netsOf (sender s) (ownSeries us (sender s)))
+
+unfoldable pub plainRun : Bytes → PlainRunAnswer
+plainRun book =
+    cond (sound book)
+    (record { number = 0; holds = every (markTrue (nOf (dayBlock book)) (used book)) (used book) and every (netsTrue (used book)) (used book) })
+    (record { number = 1; holds = false })

@@ -1,0 +1,70 @@
+// The values that the desk's calls take and give. The definitions in specs/ speak of these same types, so that a promise reads
+// `r ≡ definition(inputs)`. There is no function here.
+
+// A quarter-hour of the day, from 1; 0 where an answer has none.
+#[repr(C)]
+pub struct Position(pub usize);
+
+// A place for a block in the book, from 1; 0 where an answer has none.
+#[repr(C)]
+pub struct Slot(pub usize);
+
+// A minute, counted from 10,080 minutes before the day's start, as the day block keeps its clock.
+#[repr(C)]
+pub struct Minute(pub u16);
+
+// The answer to a submission: the number of the first broken rule, or 0, with the series and the position at which it is broken.
+#[repr(C)]
+pub struct Verdict {
+    pub number: u32,
+    pub series: usize,
+    pub position: Position,
+}
+
+// What the clock's call hands back beside its answer.
+#[repr(C)]
+pub struct DayState {
+    pub n: u8,
+    pub lead: u16,
+    pub clock: Minute,
+}
+
+#[repr(C)]
+pub struct ClockAnswer {
+    pub number: u32,
+    pub state: DayState,
+}
+
+#[repr(C)]
+pub struct MarkAnswer {
+    pub number: u32,
+    pub state: u8,
+    pub first: Position,
+    pub partner: Slot,
+}
+
+#[repr(C)]
+pub struct FinalAnswer {
+    pub number: u32,
+    pub kilowatts: u32,
+}
+
+#[repr(C)]
+pub struct PlainRunAnswer {
+    pub number: u32,
+    pub holds: bool,
+}
+
+// What a quantity text says, in kilowatts.
+#[repr(C)]
+pub struct QuantityRead {
+    pub number: u32,
+    pub kilowatts: u32,
+}
+
+// How long the printed text of a quantity is.
+#[repr(C)]
+pub struct QuantityPrinted {
+    pub number: u32,
+    pub length: usize,
+}
