@@ -1,6 +1,5 @@
 -- Parts of a list, lists written over, and numbers as bytes, the lowest first.
 pub mod Laws
-
 use mathlib.Core.List.{List, [], _∷_}
 use Prim.Native.Nat.{ℕ, zero, suc, _+_, _*_, _/_, _%_}
 use lib.ListN.{take, drop}

@@ -1,6 +1,5 @@
 -- A list cut into blocks of one width, and blocks joined.
 pub mod Laws
-
 use mathlib.Core.List.{List, [], _∷_, _++_}
 use Prim.Native.Nat.{ℕ, zero, suc, _*_, _/_}
 use lib.ListN.{length, take, drop}

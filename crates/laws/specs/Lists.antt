@@ -1,6 +1,5 @@
 -- Lists searched, sieved and compared by tests.
 pub mod Laws
-
 use mathlib.Core.Bool.{Bool, true, false, cond}
 use mathlib.Core.Option.{Option, none, some}
 use mathlib.Core.List.{List, [], _∷_}

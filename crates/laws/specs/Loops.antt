@@ -359,9 +359,9 @@ module _ {X : Type 0} where
       ∙ sym (length-append (take s l) (drop s l)) ∙ ap length (take-append-drop s l)
 
   module _ {W : Type 0} (view : X → W) (g : List X → X → X)
-    (keeps : (l : List X) (y : X) → view (g l y) ≡ view y)
-    (reads : (l r : List X) (y : X) → map view l ≡ map view r → g l y ≡ g r y)
-    (l : List X) where
+      (keeps : (l : List X) (y : X) → view (g l y) ≡ view y)
+      (reads : (l r : List X) (y : X) → map view l ≡ map view r → g l y ≡ g r y)
+      (l : List X) where
     seen-map : (k r : List X) → map view (map (g k) r) ≡ map view r
     seen-map k [] = refl
     seen-map k (y ∷ ys) = ap₂ _∷_ (keeps k y) (seen-map k ys)

@@ -1,6 +1,5 @@
 -- A table of n numbers that holds what f gives at each place.
 pub mod Laws
-
 use mathlib.Core.Path.{_≡_}
 use mathlib.Core.Bool.{Bool, true}
 use mathlib.Core.List.{List, [], _∷_}

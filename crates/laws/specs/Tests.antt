@@ -1,14 +1,11 @@
 -- Tests: functions to Bool that stay folded until a proof names them, so that a goal shows them by name.
 pub mod Laws
-
 use mathlib.Core.Bool.{Bool, true, not, _&&_, _||_}
 use Prim.Native.Nat.{ℕ, zero, suc}
 use lib.Dec.{eqb, leb, ltb}
 
 infixl 35 _and_
-
 infixl 30 _or_
-
 unfoldable pub _and_ : Bool → Bool → Bool
 a and b = a && b
 

@@ -24,7 +24,6 @@ abbrev pub numberOf : Verdict → ℕ
 numberOf v = v .number
 
 infixr 20 _then_
-
 unfoldable pub _then_ : Verdict → Verdict → Verdict
 v then w = firstRefusal numberOf v w
 

@@ -224,6 +224,7 @@ little-value (x ∷ l) h =
   where
     low : (y v : ℕ) → y < 256 → (y + 256 * v) % 256 ≡ y
     low y v k = omega arith
+
     high : (y v : ℕ) → y < 256 → (y + 256 * v) / 256 ≡ v
     high y v k = omega arith
 

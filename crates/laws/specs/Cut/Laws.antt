@@ -34,6 +34,7 @@ width-blocks w n i p h = by (lt-or i (n / w))
         let b : w * (n / w + 1) ≤ w * (i + 1) = mul-le-mul-left w (omega arith) in
         let c : w * (i + 1) ≡ w * i + w = rw (add-one i) (mul-suc w i) in
         omega arith
+
     by : (i < n / w) ⊎ (n / w ≤ i) → i < n / w
     by (inl g) = g
     by (inr g) = let k : n < w * i + w = far g in absurd (omega arith)

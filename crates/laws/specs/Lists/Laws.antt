@@ -676,12 +676,13 @@ module _ {A : Type 0} (key : A → List ℕ) (g : A → ℕ) where
           let i : x ≡ y = let s : some x ≡ some y = rw u at e in cc in
           let a : All (λ z. neg (same (key x) (key z)) ≡ true) xs = every-all _ xs (and-left _ _ d) in
           let b : All (λ z. cond (f z) (g z) 0 ≡ cond (f z and neg (under k z)) (g z) 0) xs = all-imply _ _
-              (λ z q. ap (λ c. cond c (g z) 0) (sym (ap (λ c. f z and c) (neg-true _ (same-swap (key z) k ∙ ap (λ m. same m (key z)) (sym (same-yes (key x) k u)) ∙ neg-yes _ q)) ∙ and-true (f z)))) xs a in
+          (λ z q. ap (λ c. cond c (g z) 0) (sym (ap (λ c. f z and c) (neg-true _ (same-swap (key z) k ∙ ap (λ m. same m (key z)) (sym (same-yes (key x) k u)) ∙ neg-yes _ q)) ∙ and-true (f z)))) xs a in
           let r : sum f xs ≡ sum (λ z. f z and neg (under k z)) xs = total-agree _ _ xs b in
           let n : (f x and neg (under k x)) ≡ false = and-no-right _ _ (neg-false _ u) in
           let m : f x ≡ true = ap f i ∙ t in
           let j : g x ≡ g y = ap g i in
           rw (n, m) (omega arith)
+
       later : same (key x) k ≡ false → sum f xs ≡ g y + sum (λ z. f z and neg (under k z)) xs → sum f (x ∷ xs) ≡ g y + sum (λ z. f z and neg (under k z)) (x ∷ xs)
       later u r =
           let n : (f x and neg (under k x)) ≡ f x = ap (λ c. f x and c) (neg-true _ u) ∙ and-true (f x) in
@@ -702,7 +703,7 @@ module _ {A : Type 0} (key : A → List ℕ) (g : A → ℕ) where
           let e : has (same (key y)) ms ≡ false = rw (same-yes _ _ (find-passes (under k) l y (o .1))) (neg-yes _ (sym (every-neg (same k) ms) ∙ and-left _ _ b)) in
           let t : sum (λ x. neg (has (same (key x)) ms)) l ≡ g y + sum (λ x. neg (has (same (key x)) ms) and neg (under k x)) l = sum-one (λ x. neg (has (same (key x)) ms)) k l d y (o .1) (neg-true _ e) in
           let u : sum (λ x. neg (has (same (key x)) ms) and neg (under k x)) l ≡ sum (λ x. neg (has (same (key x)) (k ∷ ms))) l =
-              total-agree (λ x. cond (neg (has (same (key x)) ms) and neg (under k x)) (g x) 0) (λ x. cond (neg (has (same (key x)) (k ∷ ms))) (g x) 0) l
-              (all-each (λ x. cond (neg (has (same (key x)) ms) and neg (under k x)) (g x) 0 ≡ cond (neg (has (same (key x)) (k ∷ ms))) (g x) 0) (λ x. ap (λ c. cond c (g x) 0) (neg-both (has (same (key x)) ms) (under k x))) l) in
+          total-agree (λ x. cond (neg (has (same (key x)) ms) and neg (under k x)) (g x) 0) (λ x. cond (neg (has (same (key x)) (k ∷ ms))) (g x) 0) l
+          (all-each (λ x. cond (neg (has (same (key x)) ms) and neg (under k x)) (g x) 0 ≡ cond (neg (has (same (key x)) (k ∷ ms))) (g x) 0) (λ x. ap (λ c. cond c (g x) 0) (neg-both (has (same (key x)) ms) (under k x))) l) in
           let z : h (find (under k) l) ≡ g y = ap h (o .1) ∙ v y in
           omega arith
