@@ -9,4 +9,4 @@ pub use Prim.Native.Nat.{ℕ, _≤_, _<_, _-_, _+_, _*_, _/_}
 pub use lib.ListN.{length, take, drop, getD}
 pub use lib.Dec.{eqb, leb, ltb}
 pub use Rattle.laws.specs.Tests.Laws.{split, told, denied}
-pub use Rattle.laws.specs.Loops.{at-end, step-cut, end-cut, step-byte, end-list}
+pub use Rattle.laws.specs.Loops.{at-end, step-cut, step-cut-at, end-cut, step-byte, end-list}

@@ -5,5 +5,6 @@ pub mod Bytes
 pub mod Cut
 pub mod Order
 pub mod Table
+pub mod Slices
 pub mod Loops
 pub mod Kit

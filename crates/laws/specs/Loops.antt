@@ -15,7 +15,7 @@ use Rattle.laws.specs.Tests.{_and_, _or_, neg, is, below}
 use Rattle.laws.specs.Tests.Laws.{below-more, and-true, or-false, or-no}
 use Rattle.laws.specs.Lists.{same, further, find, place, has, every, apart, count, until, total}
 use Rattle.laws.specs.Cut.{cut, block}
-use Rattle.laws.specs.Cut.Laws.{drop-cut, drop-cut-end}
+use Rattle.laws.specs.Cut.Laws.{drop-cut, drop-cut-end, cut-at}
 use Rattle.laws.specs.Lists.Laws.{map-append, has-append, has-no-place, find-append-second, place-append-second, until-all, until-hit}
 
 -- what a loop has at its end
@@ -43,6 +43,10 @@ step-byte b i h = record { rest = rw (add-one, drop-cons b i 0) }
 module _ {X : Type 0} where
   pub step-cut : (w : ℕ) (b : List X) (i : ℕ) → i < length b / w → Step (cut w b) i (block w b i)
   step-cut w b i h = record { rest = drop-cut w b i h }
+
+  -- the same, with the block as it stands in the list
+  pub step-cut-at : (w : ℕ) (b : List X) (i : ℕ) → i < length b / w → Step (cut w b) i (getD (cut w b) i [])
+  step-cut-at w b i h = rw (cut-at w b i h) (step-cut w b i h)
 
   pub end-cut : (w : ℕ) (b : List X) (i : ℕ) → length b / w ≤ i → End (cut w b) i
   end-cut w b i h = record { rest = drop-cut-end w b i h }

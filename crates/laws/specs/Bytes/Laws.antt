@@ -6,7 +6,7 @@ use native.Mathlib.Nat.{add-zero, zero-add, suc-add, add-suc, mul-assoc, pow-zer
 use native.Mathlib.Numerals.{add-one}
 use native.Mathlib.Omega.{arith}
 use lib.ListN.{length, take, drop, getD, set, length-set, length-take, length-drop, take-append-drop, drop-of-length-le}
-use lib.Seq.{sets, length-sets, sets-eq, set-append-left, getD-take, getD-drop, drop-set-lt, drop-set-add, take-set-le, take-set-lt, drop-at, take-at, length-take-le, take-append-le, drop-append-le, drop-append-add, take-nil, take-take, take-all, take-add, drop-drop}
+use lib.Seq.{sets, length-sets, sets-eq, set-append-left, getD-take, getD-drop, drop-set-lt, drop-set-add, take-set-le, take-set-lt, drop-at, take-at, length-take-le, take-append-le, drop-append-le, drop-append-add, take-nil, take-take, take-all, take-add, drop-drop, set-comm}
 use Rattle.laws.specs.Lists.{All}
 use Rattle.laws.specs.Lists.Laws.{drop-take, all-take, all-drop}
 use Rattle.laws.specs.Bytes.{part, written, value, little, number}
@@ -75,6 +75,18 @@ all-part P o n b h = all-take P n (drop o b) (all-drop P o b h)
 pub written-none : (o : ℕ) (b : List ℕ) → written o [] b ≡ b
 unfolding written
 written-none o b = refl
+
+-- the first element written before the others, and the last
+pub written-cons : (o x : ℕ) (v b : List ℕ) → written o (x ∷ v) b ≡ written (o + 1) v (set b o x)
+unfolding written
+written-cons o x v b = rw add-one
+
+pub written-last : (o : ℕ) (v : List ℕ) (x : ℕ) (b : List ℕ) → written o v (set b (o + length v) x) ≡ written o (v ++ x ∷ []) b
+unfolding written
+written-last o [] x b = rw add-zero
+written-last o (a ∷ v) x b =
+    let n : o + suc (length v) ≡ suc o + length v = omega arith in
+    rw (n, ← set-comm b o (suc o + length v) a x (λ e. omega arith)) (written-last (suc o) v x (set b o a))
 
 pub written-length : (o : ℕ) (v b : List ℕ) → length (written o v b) ≡ length b
 unfolding written

@@ -9,8 +9,8 @@ use native.Mathlib.Numerals.{add-one}
 use native.Mathlib.Omega.{arith}
 use lib.ListN.{length, take, drop, getD}
 use lib.Seq.{take-suc, take-all, take-nil}
-use Rattle.laws.specs.Tests.{_and_, _or_, neg}
-use Rattle.laws.specs.Tests.Laws.{split, clash, neg-both, cond-apply, and-left, and-right, and-both, and-true, and-no-right, or-no, or-left, or-right, or-else, neg-yes, neg-true, neg-false, is-yes, is-same}
+use Rattle.laws.specs.Tests.{_and_, _or_, neg, is}
+use Rattle.laws.specs.Tests.Laws.{split, clash, neg-both, cond-apply, and-left, and-right, and-both, and-true, and-assoc, and-no-right, or-no, or-left, or-right, or-else, neg-yes, neg-true, neg-false, is-yes, is-same}
 use Rattle.laws.specs.Lists.{same, further, find, place, nth, has, every, apart, count, keep, until, total, All}
 
 -- ---- the same list of numbers
@@ -41,6 +41,15 @@ same-swap a b = split (same b a) (λ t. same-equal a b (sym (same-yes b a t)) �
 
 pub same-length-other : (a b : List ℕ) → (length a ≡ length b → ⊥) → same a b ≡ false
 same-length-other a b f = same-other a b (λ e. f (ap length e))
+
+-- the first n and the rest
+pub same-split : (n : ℕ) (a b : List ℕ) → same a b ≡ (same (take n a) (take n b) and same (drop n a) (drop n b))
+unfolding same _and_
+same-split zero a b = refl
+same-split (suc n) [] [] = refl
+same-split (suc n) [] (y ∷ ys) = refl
+same-split (suc n) (x ∷ xs) [] = refl
+same-split (suc n) (x ∷ xs) (y ∷ ys) = rw (same-split n xs ys) (sym (and-assoc (is x y) (same (take n xs) (take n ys)) (same (drop n xs) (drop n ys))))
 
 -- ---- a place, one element further on
 
@@ -368,6 +377,14 @@ module _ {A : Type 0} where
 
   pub every-keep : (p f : A → Bool) (l : List A) → every p l ≡ true → every p (keep f l) ≡ true
   every-keep p f l e = all-every p (keep f l) (all-keep (λ x. p x ≡ true) f l (every-all p l e))
+
+  pub length-none : (l : List A) → length l ≡ 0 → l ≡ []
+  length-none [] h = refl
+  length-none (x ∷ l) h = absurd (omega arith)
+
+  -- where all pass, none fails
+  pub every-has-no : (p : A → Bool) (l : List A) → every p l ≡ true → has (λ x. neg (p x)) l ≡ false
+  every-has-no p l e = all-has-no _ l (all-imply (λ x. p x ≡ true) (λ x. neg (p x) ≡ false) (λ x. neg-false (p x)) l (every-all p l e))
 
   pub every-agree : (p q : A → Bool) (l : List A) → All (λ x. p x ≡ q x) l → every p l ≡ every q l
   unfolding every

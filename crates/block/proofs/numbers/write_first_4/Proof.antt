@@ -1,0 +1,15 @@
+-- The bytes of a number are its remainders by 256, set one after the other.
+use Rattle.laws.specs.Kit.{needs}
+use Rattle.laws.specs.Bytes.{written, little}
+use Rattle.block.proofs.numbers.write_first_4.Statement.{statement}
+use Rattle.block.proofs.numbers.write_first_4.Tie as tie
+
+returns : tie.Need-returns
+unfolding written little
+returns c = cc
+
+pub write-first-4-spec : {M : Type 1} → statement M
+write-first-4-spec =
+    tie.close
+    (tie.spec (search needs) (search needs) (search needs) (search needs) (search needs) (search needs) (search needs) (search needs) (search needs)
+    returns)

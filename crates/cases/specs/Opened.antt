@@ -1,0 +1,66 @@
+-- Every definition that a case computes through. To name one of these on an `unfolding` line opens its whole group; `paper` opens all.
+use Prim.Native.Nat.{ℕ}
+use Rattle.laws.specs.Tests.{_and_, _or_, neg, is, less, upto, below}
+use Rattle.laws.specs.Lists.{same, further, find, place, has, every, apart, count, keep, until, total}
+use Rattle.laws.specs.Bytes.{part, written, value, little, number}
+use Rattle.laws.specs.Cut.{chunks, cut, join}
+use Rattle.laws.specs.Order.{first as firstRefusal, along}
+use Rattle.paper.specs.Check.{checkStep, checkFrom, checkOf, checkRight, sealed}
+use Rattle.paper.specs.Layout.{zeros, kind, nOf, lead, clock, dayOfBook, area, receiver, dayZeros, version, idOf, seriesCount, sender, dayOfMessage, nets, senderZeros, businessType, contractType, sendersSlot, inArea, outArea, inParty, outParty, pair, agreement, mark, state, first, partner, quantities, entry, quantity, aboveN, senderZerosInMessage, seriesZerosInMessage, withClock, withSendersSlot, withMark, withNets}
+use Rattle.paper.specs.Ranges.{wholeBlocks, nAllowed, leadAllowed, clockAllowed, versionAllowed, countAllowed, quantityAllowed, netAllowed, entriesAllowed}
+use Rattle.paper.specs.Ids.{digit, letter, hyphen, idCharacter, idText, idWellFormed, dayWellFormed}
+use Rattle.paper.specs.Eic.{characterValue, eicCharacter, weighted, eicSum, eicValid}
+use Rattle.paper.specs.Book.{dayBlock, slots, isFree, used, freeSlots, isSender, isSeries, numbered, isSenderBlockOf, slotOf, isSeriesOf, ownSender, ownSeries}
+use Rattle.paper.specs.Sound.{dayFields, daySound, usedFirst, countSound, senderFields, senderDay, senderSound, partiesOf, ownerSound, partnerSound, seriesFields, seriesCodes, seriesValues, seriesSound, usedSound, sameSender, sameSeries, sound}
+use Rattle.paper.specs.Message.{headOf, seriesOf, headRight, seriesRight, messageRight, rule2, seriesNumbered}
+use Rattle.paper.specs.Rules.{_then_, broken, overPositions, rule1, rule3, rule4, rule5, versionBroken, rule6, idIs, pairIs, withOtherPair, withOtherId, rule7, rule8, rule9, rule10, rule11, rule12, rule13, isOpen, closed, rule14, seriesVersion, rule15, absent, rule16, isNew, newBlocks, rule17, storedOf, quantityVerdict, closedVerdict, formVerdict, valuesVerdict, seriesVerdict, eachSeries, judge, verdict}
+use Rattle.paper.specs.Codes.{table, codeIn, reasonCode, statusCode, replyTo}
+use Rattle.paper.specs.Marks.{isCounterpart, counterpart, counterpartSlot, differenceFrom, firstDifference, markOf, markIn, stateCode}
+use Rattle.paper.specs.Nets.{bought, sold, netOf, netsTo, netsOf}
+use Rattle.paper.specs.Acceptance.{slotFor, senderKept, replaced, renewed, fresh, placed, isSeriesOfPair, touched, remarked, usedAfter, accepted, submitted}
+use Rattle.paper.specs.Finals.{finalOf, held, isHeld, heldAt, finalIn, final}
+use Rattle.paper.specs.Opening.{dayBlockOf, openingAllowed, openNumber, opened}
+use Rattle.paper.specs.Clock.{dayState, advanced, clockAnswer, clockMoved}
+use Rattle.paper.specs.Readings.{isStoredAs, storedAs, markFound, markAnswer, acceptedBlock}
+use Rattle.paper.specs.PlainRun.{markTrue, netsTrue, plainRun}
+use Rattle.paper.specs.QuantityText.{leadingDigits, decimalFrom, worth, pastPoint, pastWhole, unsignedRead, pastMinus, quantityRead, lastDigits, widthOf, decimal, quantityText, quantityPrinted, printedInto}
+use Rattle.paper.specs.Listing.{text, line, seriesLine, seriesLines, header, listing}
+
+-- the crate of general definitions
+unfoldable pub general : ℕ
+unfolding _and_ _or_ neg is less upto below same further find place has every apart count keep until total part written value little number chunks cut join firstRefusal along
+general = 0
+
+-- "Blocks"
+unfoldable pub blocks : ℕ
+unfolding checkStep checkFrom checkOf checkRight sealed zeros kind nOf lead clock dayOfBook area receiver dayZeros version idOf seriesCount sender dayOfMessage nets senderZeros businessType contractType sendersSlot inArea outArea inParty outParty pair agreement mark state first partner quantities entry quantity aboveN senderZerosInMessage seriesZerosInMessage withClock withSendersSlot withMark withNets wholeBlocks nAllowed leadAllowed clockAllowed versionAllowed countAllowed quantityAllowed netAllowed entriesAllowed digit letter hyphen idCharacter idText idWellFormed dayWellFormed
+blocks = 0
+
+-- "EIC"
+unfoldable pub eic : ℕ
+unfolding characterValue eicCharacter weighted eicSum eicValid
+eic = 0
+
+-- "Sound book"
+unfoldable pub soundBook : ℕ
+unfolding dayBlock slots isFree used freeSlots isSender isSeries numbered isSenderBlockOf slotOf isSeriesOf ownSender ownSeries dayFields daySound usedFirst countSound senderFields senderDay senderSound partiesOf ownerSound partnerSound seriesFields seriesCodes seriesValues seriesSound usedSound sameSender sameSeries sound
+soundBook = 0
+
+-- "Submission: order of checks"
+unfoldable pub orderOfChecks : ℕ
+unfolding headOf seriesOf headRight seriesRight messageRight rule2 seriesNumbered _then_ broken overPositions rule1 rule3 rule4 rule5 versionBroken rule6 idIs pairIs withOtherPair withOtherId rule7 rule8 rule9 rule10 rule11 rule12 rule13 isOpen closed rule14 seriesVersion rule15 absent rule16 isNew newBlocks rule17 storedOf quantityVerdict closedVerdict formVerdict valuesVerdict seriesVerdict eachSeries judge verdict table codeIn reasonCode statusCode replyTo
+orderOfChecks = 0
+
+-- "Marks and finals", and what an acceptance writes
+unfoldable pub marksAndFinals : ℕ
+unfolding isCounterpart counterpart counterpartSlot differenceFrom firstDifference markOf markIn stateCode bought sold netOf netsTo netsOf slotFor senderKept replaced renewed fresh placed isSeriesOfPair touched remarked usedAfter accepted submitted finalOf held isHeld heldAt finalIn final
+marksAndFinals = 0
+
+-- "Other calls"
+unfoldable pub otherCalls : ℕ
+unfolding dayBlockOf openingAllowed openNumber opened dayState advanced clockAnswer clockMoved isStoredAs storedAs markFound markAnswer acceptedBlock markTrue netsTrue plainRun leadingDigits decimalFrom worth pastPoint pastWhole unsignedRead pastMinus quantityRead lastDigits widthOf decimal quantityText quantityPrinted printedInto text line seriesLine seriesLines header listing
+otherCalls = 0
+
+unfoldable pub paper : ℕ
+unfolding general blocks eic soundBook orderOfChecks marksAndFinals otherCalls
+paper = 0

@@ -1,0 +1,1 @@
+// Worked cases of document 01 stand in specs/, computed by the definitions; there is no code here.

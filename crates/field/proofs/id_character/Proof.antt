@@ -1,0 +1,10 @@
+-- The three tests are joined as the definition joins them.
+use Rattle.laws.specs.Kit.{needs}
+use Rattle.laws.specs.Tests.{_or_}
+use Rattle.paper.specs.Ids.{idCharacter}
+use Rattle.field.proofs.id_character.Statement.{statement}
+use Rattle.field.proofs.id_character.Tie as tie
+
+pub id-character-spec : {M : Type 1} → statement M
+unfolding idCharacter _or_
+id-character-spec = tie.close (tie.spec (search needs) (search needs) (search needs) (λ c. cc))

@@ -1,0 +1,156 @@
+// Parts of blocks, and the fields that stand in them: sixteen bytes of an id or of a code, eight digits of a day.
+ghost use mathlib.Core.Path.{_≡_};
+ghost use Prim.Native.Nat.{_≤_};
+ghost use lib.ListN.{length};
+ghost use Rattle.laws.specs.Lists.{same, every};
+ghost use Rattle.laws.specs.Bytes.{part};
+ghost use Rattle.paper.specs.Layout.{zeros};
+ghost use Rattle.paper.specs.Ids.{digit, letter, hyphen, idCharacter, idText, idWellFormed, dayWellFormed};
+
+// No offset is refused: where the slice ends, the part is shorter or empty, as an absent block's is.
+pub fn part_of(s: &[u8], at: usize, n: usize) -> &[u8]
+    ensures { λ r. ⌜ now r ≡ part at n (now (s .entry)) ⌝ }
+{
+    if s.len() <= at {
+        return &s[..0];
+    }
+    if s.len() - at <= n {
+        return &s[at..];
+    }
+    &s[at..at + n]
+}
+
+// Looks at every byte, whatever it finds: so several go in one step of the machine.
+fn same_bytes(a: &[u8], b: &[u8]) -> bool
+    requires { ⌜ length (now a) ≡ length (now b) ⌝ }
+    ensures { λ r. ⌜ r ≡ same (now (a .entry)) (now (b .entry)) ⌝ }
+{
+    let mut ok = true;
+    let mut i = 0;
+    while i < a.len() {
+        ok = ok & (a[i] == b[i]);
+        i += 1;
+    }
+    ok
+}
+
+// The one comparison of fields: of ids, codes, pairs of parties, days, quantities. Sixteen bytes at a time, since ids and codes have
+// as many; it stops at the first sixteen that differ.
+pub fn same(a: &[u8], b: &[u8]) -> bool
+    ensures { λ r. ⌜ r ≡ same (now (a .entry)) (now (b .entry)) ⌝ }
+{
+    if a.len() != b.len() {
+        return false;
+    }
+    let mut at = 0;
+    while 16 <= a.len() - at {
+        if !same_bytes(&a[at..at + 16], &b[at..at + 16]) {
+            return false;
+        }
+        at += 16;
+    }
+    same_bytes(&a[at..], &b[at..])
+}
+
+// For the bytes that the layout shows as 0, up to hundreds at a time: it looks at every byte, as same_bytes does.
+pub fn all_zero(s: &[u8]) -> bool
+    ensures { λ r. ⌜ r ≡ zeros (now (s .entry)) ⌝ }
+{
+    let mut ok = true;
+    let mut i = 0;
+    while i < s.len() {
+        ok = ok & (s[i] == 0);
+        i += 1;
+    }
+    ok
+}
+
+// 0–9, in ids, codes and days.
+pub fn digit(x: u8) -> bool
+    ensures { λ r. ⌜ r ≡ digit x ⌝ }
+{
+    (48 <= x) & (x <= 57)
+}
+
+// A–Z: no small letter stands in an id or a code.
+pub fn letter(x: u8) -> bool
+    ensures { λ r. ⌜ r ≡ letter x ⌝ }
+{
+    (65 <= x) & (x <= 90)
+}
+
+// Stands in ids and in codes, though never as a code's sixteenth character.
+pub fn hyphen(x: u8) -> bool
+    ensures { λ r. ⌜ r ≡ hyphen x ⌝ }
+{
+    x == 45
+}
+
+// An id is of "A–Z, 0–9 and hyphen".
+pub fn id_character(x: u8) -> bool
+    ensures { λ r. ⌜ r ≡ idCharacter x ⌝ }
+{
+    letter(x) | digit(x) | hyphen(x)
+}
+
+// Of an id's text, which ends before the zero bytes.
+fn all_id_characters(s: &[u8]) -> bool
+    ensures { λ r. ⌜ r ≡ every idCharacter (now (s .entry)) ⌝ }
+{
+    let mut ok = true;
+    let mut i = 0;
+    while i < s.len() {
+        ok = ok & id_character(s[i]);
+        i += 1;
+    }
+    ok
+}
+
+// Of a day.
+fn all_digits(s: &[u8]) -> bool
+    ensures { λ r. ⌜ r ≡ every digit (now (s .entry)) ⌝ }
+{
+    let mut ok = true;
+    let mut i = 0;
+    while i < s.len() {
+        ok = ok & digit(s[i]);
+        i += 1;
+    }
+    ok
+}
+
+// How far an id goes: up to its first zero byte, or to the field's end.
+pub fn id_text_length(s: &[u8]) -> usize
+    ensures { λ r. ⌜ (r ≡ length (idText (now (s .entry)))) × (r ≤ length (now (s .entry))) ⌝ }
+{
+    let mut i = 0;
+    while i < s.len() {
+        if s[i] == 0 {
+            return i;
+        }
+        i += 1;
+    }
+    i
+}
+
+// An id as it is shown, without its zero bytes.
+pub fn id_text(s: &[u8]) -> &[u8]
+    ensures { λ r. ⌜ now r ≡ idText (now (s .entry)) ⌝ }
+{
+    part_of(s, 0, id_text_length(s))
+}
+
+// An id is "1 to 16 of A–Z, 0–9 and hyphen, then zero bytes": nothing stands behind its first zero byte.
+pub fn id_well_formed(s: &[u8]) -> bool
+    ensures { λ r. ⌜ r ≡ idWellFormed (now (s .entry)) ⌝ }
+{
+    let n = id_text_length(s);
+    (s.len() == 16) & (1 <= n) & all_id_characters(&s[..n]) & all_zero(&s[n..])
+}
+
+// "Eight digits; the calendar isn't consulted."
+pub fn day_well_formed(s: &[u8]) -> bool
+    ensures { λ r. ⌜ r ≡ dayWellFormed (now (s .entry)) ⌝ }
+{
+    (s.len() == 8) & all_digits(s)
+}

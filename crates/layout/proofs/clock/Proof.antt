@@ -1,0 +1,12 @@
+-- The offset and the width are the definition's.
+use borrow.Author.Needs.{needs}
+use Rattle.paper.specs.Layout.{clock}
+use Rattle.layout.proofs.clock.Statement.{statement}
+use Rattle.layout.proofs.clock.Tie as tie
+
+returns : tie.Need-returns
+unfolding clock
+returns c = search needs
+
+pub clock-spec : {M : Type 1} → statement M
+clock-spec = tie.close (tie.spec (search needs) returns)

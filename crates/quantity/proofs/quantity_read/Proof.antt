@@ -1,0 +1,40 @@
+-- A text with no byte has no minus either; otherwise the code asks the definition's question of the first byte.
+use Rattle.laws.specs.Kit.{needs}
+use denote.Ref.{now}
+use Rattle.laws.specs.Tests.{is}
+use Rattle.laws.specs.Tests.Laws.{is-equal, is-other}
+use Rattle.paper.specs.QuantityText.{quantityRead}
+use Rattle.laws.specs.Slices.{rest-slice}
+use Rattle.laws.specs.Lists.Laws.{length-none}
+use Rattle.quantity.proofs.quantity_read.Statement.{statement}
+use Rattle.quantity.proofs.quantity_read.Tie as tie
+
+returns : tie.Need-returns
+unfolding quantityRead is
+returns c = rw (c .unsigned-read .ensures, length-none (now (c .before .before .before .args .s)) (c .before .if1 .taken))
+
+returns-2 : tie.Need-returns-2
+unfolding quantityRead
+returns-2 c = simp (c .unsigned-read2 .ensures, is-other _ _ (c .before .if2 .taken))
+
+returns-3 : tie.Need-returns-3
+unfolding quantityRead
+returns-3 c =
+    let u = c .before in
+    simp (c .past-minus .ensures, u .unsigned-read3 .ensures, is-equal _ _ (u .before .before .if2 .left), rest-slice)
+
+pub quantity-read-spec : {M : Type 1} → statement M
+quantity-read-spec =
+    tie.close
+    (tie.spec
+    (search needs)
+    returns
+    (search needs)
+    (search needs)
+    returns-2
+    (search needs)
+    (search needs)
+    (search needs)
+    (search needs)
+    (search needs)
+    returns-3)

@@ -1,0 +1,38 @@
+-- Blocks by number, and a free block, as the code finds them.
+use mathlib.Core.Path.{_≡_, refl, sym, ap, _∙_}
+use mathlib.Core.Bool.{Bool, true, false}
+use mathlib.Core.List.{List, [], _∷_}
+use Prim.Native.Nat.{ℕ, zero, suc, _+_, _-_, _*_, _/_, _≤_, _<_}
+use native.Mathlib.Nat.{add-sub-cancel-left}
+use native.Mathlib.Omega.{arith}
+use lib.ListN.{length, take, drop, getD, List·getD-eq-default}
+use Rattle.laws.specs.Tests.{_and_, is}
+use Rattle.laws.specs.Tests.Laws.{split, clash, is-yes, and-left}
+use Rattle.laws.specs.Lists.{every}
+use Rattle.laws.specs.Bytes.Laws.{number-1}
+use Rattle.laws.specs.Cut.{cut, block}
+use Rattle.laws.specs.Cut.Laws.{cut-length, cut-at}
+use Rattle.paper.specs.Layout.{Bytes, Block, zeros, kind}
+use Rattle.paper.specs.Book.{numbered, isFree}
+
+pub block-none : (s : Bytes) (i : ℕ) → length s / 512 ≤ i → [] ≡ getD (cut 512 s) i []
+block-none s i h = sym (List·getD-eq-default (cut 512 s) [] (rw (cut-length 512 s) h))
+
+pub block-some : (s : Bytes) (i : ℕ) → i < length s / 512 → take (512 * i + 512 - 512 * i) (drop (512 * i) s) ≡ getD (cut 512 s) i []
+unfolding block
+block-some s i h = rw (add-sub-cancel-left, cut-at 512 s i h)
+
+pub numbered-none : (l : List Block) (k : ℕ) → k ≡ 0 → [] ≡ numbered l k
+unfolding numbered
+numbered-none l k e = rw e
+
+pub numbered-some : (l : List Block) (k : ℕ) {x : Block} → (k ≡ 0 → ⊥) → x ≡ getD l (k - 1) [] → x ≡ numbered l k
+unfolding numbered
+numbered-some l zero n e = absurd (n refl)
+numbered-some l (suc k) n e = let z : suc k - 1 ≡ k = omega arith in e ∙ rw z
+
+-- a block whose kind is not 0 is not free
+pub kind-used : (b : Block) → (kind b ≡ 0 → ⊥) → isFree b ≡ false
+unfolding kind isFree zeros every _and_
+kind-used [] n = absurd (n (number-1 0 []))
+kind-used (x ∷ b) n = split (is x 0) (λ t. absurd (n (number-1 0 (x ∷ b) ∙ is-yes x 0 t))) (λ t. rw t)

@@ -1,0 +1,17 @@
+-- The kind is the definition's.
+use Rattle.laws.specs.Tests.{is}
+use Rattle.paper.specs.Book.{isSeries}
+use native.Mathlib.Omega.{arith}
+use borrow.Author.Needs.{needs}
+use Rattle.slots.proofs.is_series.Statement.{statement}
+use Rattle.slots.proofs.is_series.Tie as tie
+
+kind-requires : tie.Need-kind-requires
+kind-requires c κs = search needs
+
+returns : tie.Need-returns
+unfolding isSeries is
+returns c = cc
+
+pub is-series-spec : {M : Type 1} → statement M
+is-series-spec = tie.close (tie.spec kind-requires returns)

@@ -1,0 +1,20 @@
+-- Both tests are the definition's.
+use Rattle.laws.specs.Tests.{_and_, is}
+use Rattle.paper.specs.Book.{isSeriesOf}
+use native.Mathlib.Omega.{arith}
+use borrow.Author.Needs.{needs}
+use Rattle.slots.proofs.is_series_of.Statement.{statement}
+use Rattle.slots.proofs.is_series_of.Tie as tie
+
+is-series-requires : tie.Need-is-series-requires
+is-series-requires c κs = search needs
+
+senders-slot-requires : tie.Need-senders-slot-requires
+senders-slot-requires c κs = search needs
+
+returns : tie.Need-returns
+unfolding isSeriesOf _and_ is
+returns c = cc
+
+pub is-series-of-spec : {M : Type 1} → statement M
+is-series-of-spec = tie.close (tie.spec is-series-requires senders-slot-requires returns)

@@ -1,0 +1,100 @@
+// Blocks in a row, as they stand in a book's slots and in a message: one by its number, those of a kind, the used ones, a sender's slot.
+ghost use mathlib.Core.Path.{_≡_};
+ghost use mathlib.Core.List.{[]};
+ghost use Prim.Native.Nat.{_*_, _≤_};
+ghost use lib.ListN.{length, getD};
+ghost use Rattle.laws.specs.Lists.{until, count};
+ghost use Rattle.laws.specs.Cut.{cut};
+ghost use Rattle.paper.specs.Book.{isFree, used, freeSlots, isSender, isSeries, numbered, isSenderBlockOf, slotOf, isSeriesOf};
+use field::all_zero;
+use field::same;
+use layout::kind;
+use layout::sender;
+use layout::senders_slot;
+use paper::Slot;
+
+// Block i, counted from 0; empty where there is none.
+pub fn block_at(s: &[u8], i: usize) -> &[u8]
+    ensures { λ r. ⌜ now r ≡ getD (cut 512 (now (s .entry))) i [] ⌝ }
+{
+    if s.len() / 512 <= i {
+        return &s[..0];
+    }
+    let start = 512 * i;
+    &s[start..start + 512]
+}
+
+// The block in a slot, or the series with a number; empty where there is none.
+pub fn numbered(s: &[u8], slot: Slot) -> &[u8]
+    ensures { λ r. ⌜ now r ≡ numbered (cut 512 (now (s .entry))) (slot .0) ⌝ }
+{
+    let k = slot.0;
+    if k == 0 {
+        return &s[..0];
+    }
+    block_at(s, k - 1)
+}
+
+pub fn is_sender(b: &[u8]) -> bool
+    ensures { λ r. ⌜ r ≡ isSender (now (b .entry)) ⌝ }
+{
+    kind(b) == 1
+}
+
+pub fn is_series(b: &[u8]) -> bool
+    ensures { λ r. ⌜ r ≡ isSeries (now (b .entry)) ⌝ }
+{
+    kind(b) == 2
+}
+
+pub fn is_series_of(b: &[u8], slot: Slot) -> bool
+    ensures { λ r. ⌜ r ≡ isSeriesOf (slot .0) (now (b .entry)) ⌝ }
+{
+    is_series(b) & (senders_slot(b).0 == slot.0)
+}
+
+pub fn is_sender_block_of(b: &[u8], e: &[u8]) -> bool
+    ensures { λ r. ⌜ r ≡ isSenderBlockOf (now (e .entry)) (now (b .entry)) ⌝ }
+{
+    is_sender(b) & same(sender(b), e)
+}
+
+// A used slot is told by its first byte.
+pub fn is_free(b: &[u8]) -> bool
+    ensures { λ r. ⌜ r ≡ isFree (now (b .entry)) ⌝ }
+{
+    if kind(b) != 0 {
+        return false;
+    }
+    all_zero(b)
+}
+
+// How many slots stand before the first free one.
+pub fn used_count(slots: &[u8]) -> usize
+    ensures { λ r. ⌜ (r ≡ length (until isFree (cut 512 (now (slots .entry))))) × (512 * r ≤ length (now (slots .entry))) ⌝ }
+{
+    let many = slots.len() / 512;
+    let mut i = 0;
+    while i < many {
+        if is_free(block_at(slots, i)) {
+            return i;
+        }
+        i += 1;
+    }
+    i
+}
+
+// The slot of the sender with this EIC; 0 where it has none.
+pub fn slot_of(us: &[u8], e: &[u8]) -> Slot
+    ensures { λ r. ⌜ r .0 ≡ slotOf (cut 512 (now (us .entry))) (now (e .entry)) ⌝ }
+{
+    let many = us.len() / 512;
+    let mut i = 0;
+    while i < many {
+        if is_sender_block_of(block_at(us, i), e) {
+            return Slot(i + 1);
+        }
+        i += 1;
+    }
+    Slot(0)
+}
