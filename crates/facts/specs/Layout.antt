@@ -184,7 +184,12 @@ receiver-with-clock minute d = part-with-clock-after minute 40 16 d (omega arith
 pub day-zeros-with-clock : (minute : ℕ) (d : Block) → dayZeros (withClock minute d) ≡ dayZeros d
 unfolding dayZeros
 day-zeros-with-clock minute d =
-    rw (part-with-clock-after minute 6 2 d (omega arith) (omega arith), part-with-clock-after minute 16 8 d (omega arith) (omega arith), part-with-clock-after minute 56 452 d (omega arith) (omega arith))
+    rw (
+      part-with-clock-after minute 6 2 d (omega arith) (omega arith),
+      part-with-clock-after minute 16 8 d (omega arith)
+          (omega arith),
+      part-with-clock-after minute 56 452 d (omega arith) (omega arith),
+    )
 
 -- ---- two series that agree in all but sender's slot, mark and check
 
@@ -210,7 +215,34 @@ alike-mark m x l = record {
   back = λ o n h f. part-with-mark-after m o n x l h f;
 }
 
+-- the bytes of a series but sender's slot, mark and check
+unfoldable pub content : Block → Bytes
+content x = part 0 6 x ++ part 8 96 x ++ part 108 400 x
+
+-- the bytes of a sender block but nets and check
+unfoldable pub headContent : Block → Bytes
+headContent s = part 0 108 s
+
+pub head-content-with-nets : (v : Bytes) (s : Block) → headContent (withNets v s) ≡ headContent s
+unfolding headContent
+head-content-with-nets v s = part-with-nets-before v 0 108 s (omega arith)
+
+-- y has the bytes of x but those of mark and check
+pub record ButMark (x y : Block) : Type 0 where
+  pub before-mark : (o n : ℕ) → o + n ≤ 104 → part o n y ≡ part o n x
+  pub after-mark : (o n : ℕ) → 108 ≤ o → o + n ≤ 508 → part o n y ≡ part o n x
+
+pub but-mark-refl : (x : Block) → ButMark x x
+but-mark-refl x = record { before-mark = λ o n h. refl; after-mark = λ o n h f. refl }
+
+pub but-mark-with-mark : (m : Bytes) (x : Block) → length m ≡ 4 → ButMark x (withMark m x)
+but-mark-with-mark m x l = record { before-mark = λ o n h. part-with-mark-before m o n x h; after-mark = λ o n h f. part-with-mark-after m o n x l h f }
+
 module _ (x y : Block) (a : Alike x y) where
+  pub alike-content : content x ≡ content y
+  unfolding content
+  alike-content = rw (a .front 0 6 (omega arith), a .middle 8 96 (omega arith) (omega arith), a .back 108 400 (omega arith) (omega arith))
+
   pub alike-n : nOf x ≡ nOf y
   unfolding nOf number
   alike-n = ap value (a .front 1 1 (omega arith))
@@ -347,4 +379,5 @@ pub zeros-above : (n : ℕ) (x : Block) → n ≤ 100 → ((k : ℕ) → k < 100
 unfolding aboveN quantity
 zeros-above n x h f =
     let e : 4 * (100 - n) ≡ 400 - 4 * n = omega arith in
-    rw e at (zeros-words (100 - n) (108 + 4 * n) x (λ p l. let q : 108 + 4 * n + 4 * p ≡ 108 + 4 * (n + p) = omega arith in rw q (f (n + p) (omega arith) (omega arith))))
+    rw e at (zeros-words (100 - n) (108 + 4 * n) x (λ p l. let q : 108 + 4 * n + 4 * p ≡ 108 + 4 * (n + p) = omega arith in rw q
+    (f (n + p) (omega arith) (omega arith))))

@@ -1,0 +1,424 @@
+-- What soundness, a verdict of 0, an accepted clock move and an accepted opening say, as records: the only door from the tests to the theorems.
+use mathlib.Core.Path.{_≡_, refl, sym, _∙_}
+use mathlib.Core.Bool.{Bool, true, false}
+use mathlib.Core.List.{List, [], _∷_, _++_}
+use Prim.Native.Nat.{ℕ, suc, _+_, _-_, _/_, _%_, _≤_, _<_}
+use native.Mathlib.Omega.{arith}
+use lib.ListN.{length, drop, replicate, length-append, length-drop, length-replicate}
+use lib.Seq.{length-take-le}
+use Rattle.laws.specs.Tests.{_and_, _or_, neg, is, less}
+use Rattle.laws.specs.Tests.Laws.{split, clash, and-left, and-right, and-both, and-no, or-left, or-right, or-no, or-yes-left, or-yes-right, or-else, neg-no, neg-true, is-yes, is-equal, less-no, less-true, upto-yes, upto-true}
+use Rattle.laws.specs.Lists.{same, has, apart, All}
+use Rattle.laws.specs.Lists.Laws.{all-imply, all-both, all-append-left, all-append-right, has-no-all, every-all, all-every, until-length}
+use Rattle.laws.specs.Bytes.Laws.{little-length}
+use Rattle.laws.specs.Cut.Laws.{cut-length, cut-widths}
+use Rattle.laws.specs.Order.Laws.{first-left, first-right, along-all}
+use Rattle.paper.specs.declared.Verdict.{Verdict}
+use Rattle.paper.specs.Check.{checkRight}
+use Rattle.paper.specs.Layout.{Bytes, Block, blocks, zeros, nOf, clock, dayOfBook, area, receiver, version, idOf, seriesCount, sender, dayOfMessage, businessType, contractType, inArea, outArea, inParty, outParty, pair, agreement, quantity, senderZerosInMessage, withClock}
+use Rattle.paper.specs.Ranges.{wholeBlocks, nAllowed, clockAllowed, versionAllowed}
+use Rattle.paper.specs.Ids.{idWellFormed}
+use Rattle.paper.specs.Eic.{eicValid}
+use Rattle.paper.specs.Book.{dayBlock, slots, isFree, used, freeSlots, isSender, isSeries, ownSender, ownSeries}
+use Rattle.paper.specs.Sound.{dayFields, daySound, usedFirst, senderSound, partiesOf, seriesSound, usedSound, sameSender, sameSeries, sound}
+use Rattle.paper.specs.Message.{headOf, seriesOf, headRight, seriesRight, messageRight, rule2}
+use Rattle.paper.specs.Rules.{fine, numberOf, _then_, broken, overPositions, rule1, rule3, rule4, rule5, versionBroken, rule6, idIs, pairIs, withOtherPair, withOtherId, rule7, rule8, rule9, rule10, rule12, rule13, closed, rule14, seriesVersion, rule15, absent, rule16, newBlocks, rule17, storedOf, quantityVerdict, closedVerdict, formVerdict, valuesVerdict, seriesVerdict, eachSeries, judge, verdict}
+use Rattle.paper.specs.Opening.{Opening, dayBlockOf, openingAllowed, openNumber, opened}
+use Rattle.paper.specs.Clock.{dayState, advanced, clockAnswer, clockMoved}
+use Rattle.facts.specs.Check.{sealed-length, sealed-right}
+use Rattle.facts.specs.Book.{series-not-sender, slots-length}
+
+-- ---- verdicts
+
+abbrev pub Passed : Verdict → Type 0
+Passed v = numberOf v ≡ 0
+
+then-left : (v w : Verdict) → Passed (v then w) → Passed v
+unfolding _then_
+then-left v w e = first-left numberOf v w e
+
+then-right : (v w : Verdict) → Passed (v then w) → Passed w
+unfolding _then_
+then-right v w e = first-right numberOf v w e
+
+passed : (test : Bool) (number series position : ℕ) → Passed (broken test (suc number) series position) → test ≡ false
+unfolding broken
+passed true number series position e = absurd (let z : suc number ≡ 0 = e in omega arith)
+passed false number series position e = refl
+
+each-position : (at : ℕ → Verdict) → Passed (overPositions at) → (k : ℕ) → k < 100 → Passed (at k)
+unfolding overPositions
+each-position at e k h = along-all numberOf fine at 100 0 e k (omega arith) (omega arith)
+
+-- ---- a sound book
+
+pub record Sound (book : Bytes) : Type 0 where
+  pub whole : length book % 512 ≡ 0
+  pub least : 2 ≤ length book / 512
+  pub most : length book / 512 ≤ 1001
+  pub checks : All (λ x. checkRight x ≡ true) (blocks book)
+  pub day : daySound (dayBlock book) ≡ true
+  pub free : All (λ x. isFree x ≡ true) (drop (length (used book)) (slots book))
+  pub each : All (λ x. usedSound (dayBlock book) (used book) x ≡ true) (used book)
+  pub senders : apart sameSender (used book) ≡ true
+  pub series : apart sameSeries (used book) ≡ true
+
+pub sound-says : (book : Bytes) → sound book ≡ true → Sound book
+unfolding sound wholeBlocks usedFirst
+sound-says book s =
+    let s1 = and-left _ _ s in
+    let s2 = and-left _ _ s1 in
+    let s3 = and-left _ _ s2 in
+    let s4 = and-left _ _ s3 in
+    let s5 = and-left _ _ s4 in
+    let s6 = and-left _ _ s5 in
+    record {
+      whole = is-yes _ _ (and-left _ _ (and-left _ _ s6));
+      least = upto-yes _ _ (and-right _ _ (and-left _ _ s6));
+      most = upto-yes _ _ (and-right _ _ s6);
+      checks = every-all _ _ (and-right _ _ s5);
+      day = and-right _ _ s4;
+      free = every-all _ _ (and-right _ _ s3);
+      each = every-all _ _ (and-right _ _ s2);
+      senders = and-right _ _ s1;
+      series = and-right _ _ s;
+    }
+
+pub is-sound : (book : Bytes) → Sound book → sound book ≡ true
+unfolding sound wholeBlocks usedFirst
+is-sound book s =
+    and-both _ _
+    (and-both _ _
+    (and-both _ _
+    (and-both _ _
+    (and-both _ _
+    (and-both _ _ (and-both _ _ (and-both _ _ (is-equal _ _ (s .whole)) (upto-true _ _ (s .least))) (upto-true _ _ (s .most))) (all-every _ _ (s .checks)))
+    (s .day)) (all-every _ _ (s .free))) (all-every _ _ (s .each))) (s .senders)) (s .series)
+
+n-small : (n : ℕ) → nAllowed n ≡ true → n ≤ 100
+unfolding nAllowed
+n-small n e =
+    split (is n 92) (λ t. omega (arith, is-yes n 92 t))
+    (λ t. split (is n 96) (λ s. omega (arith, is-yes n 96 s)) (λ s. omega (arith, is-yes n 100 (or-else _ _ e (or-no _ _ t s)))))
+
+pub day-n : (d : Block) → daySound d ≡ true → nOf d ≤ 100
+unfolding daySound dayFields
+day-n d e = n-small _ (and-right _ _ (and-left _ _ (and-left _ _ (and-left _ _ (and-left _ _ (and-left _ _ (and-left _ _ e)))))))
+
+pub day-block-length : (book : Bytes) → Sound book → length (dayBlock book) ≡ 512
+unfolding dayBlock
+day-block-length book s = let h : 2 ≤ length book / 512 = s .least in length-take-le 512 book (omega arith)
+
+pub used-few : (book : Bytes) → Sound book → length (used book) ≤ 1000
+unfolding used
+used-few book s = let h : length book / 512 ≤ 1001 = s .most in omega (arith, until-length isFree (slots book), slots-length book)
+
+-- a used block is a sound sender or a sound series
+module _ (d : Block) (us : List Block) (x : Block) (q : usedSound d us x ≡ true) where
+  pub used-sender : isSender x ≡ true → senderSound d us x ≡ true
+  unfolding usedSound
+  used-sender t = rw t at q
+
+  pub used-series : isSeries x ≡ true → seriesSound d us x ≡ true
+  unfolding usedSound
+  used-series t = and-right _ _ (rw (series-not-sender x t) at q)
+
+  pub used-other : isSender x ≡ false → isSeries x ≡ true
+  unfolding usedSound
+  used-other t = and-left _ _ (rw t at q)
+
+  pub used-kind : (isSender x or isSeries x) ≡ true
+  used-kind = split (isSender x) (λ t. or-yes-left _ _ t) (λ t. or-yes-right _ _ (used-other t))
+
+-- ---- a message that rule 2 lets through
+
+pub record Message (message : Bytes) : Type 0 where
+  pub whole : length message % 512 ≡ 0
+  pub least : 2 ≤ length message / 512
+  pub most : length message / 512 ≤ 201
+  pub head-kind : isSender (headOf message) ≡ true
+  pub head-count : seriesCount (headOf message) ≡ length (seriesOf message)
+  pub head-zeros : senderZerosInMessage (headOf message) ≡ true
+  pub series-kinds : All (λ y. isSeries y ≡ true) (seriesOf message)
+  pub series-n : All (λ y. nOf y ≡ nOf (headOf message)) (seriesOf message)
+
+message-says : (message : Bytes) → messageRight message ≡ true → Message message
+unfolding messageRight wholeBlocks headRight seriesRight
+message-says message s =
+    let s1 = and-left _ _ s in
+    let s2 = and-left _ _ (and-left _ _ s1) in
+    let h = and-right _ _ s1 in
+    let each = every-all _ _ (and-right _ _ s) in
+    record {
+      whole = is-yes _ _ (and-left _ _ (and-left _ _ s2));
+      least = upto-yes _ _ (and-right _ _ (and-left _ _ s2));
+      most = upto-yes _ _ (and-right _ _ s2);
+      head-kind = and-left _ _ (and-left _ _ h);
+      head-count = is-yes _ _ (and-right _ _ (and-left _ _ h));
+      head-zeros = and-right _ _ h;
+      series-kinds = all-imply _ _ (λ y q. and-left _ _ (and-left _ _ q)) (seriesOf message) each;
+      series-n = all-imply _ _ (λ y q. is-yes _ _ (and-right _ _ q)) (seriesOf message) each;
+    }
+
+pub head-length : (message : Bytes) → Message message → length (headOf message) ≡ 512
+unfolding headOf
+head-length message m = let h : 2 ≤ length message / 512 = m .least in length-take-le 512 message (omega arith)
+
+pub series-lengths : (message : Bytes) → All (λ y. length y ≡ 512) (seriesOf message)
+unfolding seriesOf
+series-lengths message = cut-widths 512 (drop 512 message)
+
+pub series-some-few : (message : Bytes) → Message message → (1 ≤ length (seriesOf message)) × (length (seriesOf message) ≤ 200)
+unfolding seriesOf
+series-some-few message m =
+    let l : 2 ≤ length message / 512 = m .least in
+    let h : length message / 512 ≤ 201 = m .most in
+    (omega (arith, cut-length 512 (drop 512 message), length-drop 512 message), omega (arith, cut-length 512 (drop 512 message), length-drop 512 message))
+
+-- ---- one series y of a message that rules 7 to 15 let through: d is the day block, own the sender's stored series, h the message's first block
+
+-- x has both the id and the pair of y, or neither
+abbrev pub Straight : Block → Block → Type 0
+Straight y x = idIs (idOf y) x ≡ pairIs (pair y) x
+
+pub record Line (d : Block) (own : List Block) (h y : Block) : Type 0 where
+  pub id-formed : idWellFormed (idOf y) ≡ true
+  pub straight : All (Straight y) own
+  pub in-valid : eicValid (inParty y) ≡ true
+  pub out-valid : eicValid (outParty y) ≡ true
+  pub parties : partiesOf (sender h) (pair y) ≡ true
+  pub in-area : same (inArea y) (area d) ≡ true
+  pub out-area : same (outArea y) (area d) ≡ true
+  pub business : is (businessType y) 2 ≡ true
+  pub contract : is (contractType y) 0 ≡ true
+  pub no-agreement : zeros (agreement y) ≡ true
+  pub small : (k : ℕ) → k < 100 → k < nOf d → quantity y k ≤ 9999999
+  pub above : (k : ℕ) → k < 100 → nOf d ≤ k → quantity y k ≡ 0
+  pub unchanged : (k : ℕ) → k < 100 → closed d (k + 1) ≡ true → quantity y k ≡ quantity (storedOf own y) k
+  pub version-is : version y ≡ seriesVersion (storedOf own y) h y
+
+-- one id or one pair: x earlier in the message, or stored
+unfoldable pub sameIdOrPair : Block → Block → Bool
+sameIdOrPair x y = same (idOf x) (idOf y) or same (pair x) (pair y)
+
+both-or-neither : (a b : Bool) → (a and neg b) ≡ false → (b and neg a) ≡ false → a ≡ b
+both-or-neither a b e f = split a
+    (λ t. t ∙ sym (neg-no _ (and-no _ _ e t)))
+    (λ t. t ∙ sym (split b (λ u. clash (neg-true _ t) (and-no _ _ f u)) (λ u. u)))
+
+module _ (d : Block) (own : List Block) (h : Block) where
+  module _ (seen : List Block) (s : ℕ) (y : Block) (e : Passed (seriesVerdict d own h seen s y)) where
+    form : Passed (formVerdict d own h seen s y)
+    unfolding seriesVerdict
+    form = then-left _ _ e
+
+    values : Passed (valuesVerdict d h (storedOf own y) s y)
+    unfolding seriesVerdict
+    values = then-right _ _ e
+
+    r7 : rule7 own seen y ≡ false
+    unfolding formVerdict
+    r7 = passed _ 6 s 0 (then-left _ _ form)
+
+    line-straight : All (Straight y) own
+    unfolding rule7 withOtherPair withOtherId
+    line-straight =
+        all-imply (λ x. (withOtherPair y x ≡ false) × (withOtherId y x ≡ false)) (Straight y) (λ x q. both-or-neither _ _ (q .0) (q .1)) own
+        (all-both (λ x. withOtherPair y x ≡ false) (λ x. withOtherId y x ≡ false) own (has-no-all _ own (or-right _ _ (or-left _ _ (or-left _ _ r7))))
+        (has-no-all _ own (or-right _ _ r7)))
+
+    line-unseen : All (λ x. sameIdOrPair x y ≡ false) seen
+    unfolding rule7 sameIdOrPair idIs pairIs
+    line-unseen =
+        all-imply (λ x. (idIs (idOf y) x ≡ false) × (pairIs (pair y) x ≡ false)) (λ x. sameIdOrPair x y ≡ false) (λ x q. or-no _ _ (q .0) (q .1)) seen
+        (all-both (λ x. idIs (idOf y) x ≡ false) (λ x. pairIs (pair y) x ≡ false) seen
+        (has-no-all _ seen (or-right _ _ (or-left _ _ (or-left _ _ (or-left _ _ r7))))) (has-no-all _ seen (or-right _ _ (or-left _ _ r7))))
+
+    line : Line d own h y
+    unfolding formVerdict valuesVerdict rule7 rule8 rule9 rule10 quantityVerdict rule12 rule13 closedVerdict rule14 rule15
+    line =
+        let f2 = then-right _ _ form in
+        let f3 = then-right _ _ f2 in
+        let r8 = passed _ 7 s 0 (then-left _ _ f2) in
+        let r9 = passed _ 8 s 0 (then-left _ _ f3) in
+        let r10 = passed _ 9 s 0 (then-right _ _ f3) in
+        let v2 = then-right _ _ values in
+        record {
+          id-formed = neg-no _ (or-left _ _ (or-left _ _ (or-left _ _ (or-left _ _ r7))));
+          straight = line-straight;
+          in-valid = neg-no _ (or-left _ _ (or-left _ _ r8));
+          out-valid = neg-no _ (or-right _ _ (or-left _ _ r8));
+          parties = neg-no _ (or-right _ _ r8);
+          in-area = neg-no _ (or-left _ _ r9);
+          out-area = neg-no _ (or-right _ _ r9);
+          business = neg-no _ (or-left _ _ (or-left _ _ r10));
+          contract = neg-no _ (or-right _ _ (or-left _ _ r10));
+          no-agreement = neg-no _ (or-right _ _ r10);
+          small = λ k l f. less-no _ _ (and-no _ _ (passed _ 11 s (k + 1) (then-left _ _ (then-right _ _ (each-position _ (then-left _ _ values) k l))))
+              (less-true k (nOf d) f));
+          above = λ k l f. is-yes _ _ (neg-no _ (and-no _ _ (passed _ 12 s (k + 1) (then-right _ _ (then-right _ _ (each-position _ (then-left _ _ values) k l))))
+              (upto-true (nOf d) k f)));
+          unchanged = λ k l c. is-yes _ _ (neg-no _ (and-no _ _ (passed _ 13 s (k + 1) (each-position _ (then-left _ _ v2) k l)) c));
+          version-is = is-yes _ _ (neg-no _ (passed _ 14 s 0 (then-right _ _ v2)));
+        }
+
+  lines : (seen : List Block) (s : ℕ) (l : List Block) → Passed (eachSeries d own h seen s l) → All (Line d own h) l
+  unfolding eachSeries
+  lines seen s [] e = tt
+  lines seen s (y ∷ ys) e = (line seen s y (then-left _ _ e), lines (seen ++ y ∷ []) (s + 1) ys (then-right _ _ e))
+
+  unseen : (seen : List Block) (s : ℕ) (l : List Block) → Passed (eachSeries d own h seen s l) → All (λ y. All (λ x. sameIdOrPair x y ≡ false) seen) l
+  unfolding eachSeries
+  unseen seen s [] e = tt
+  unseen seen s (y ∷ ys) e = (
+    line-unseen seen s y (then-left _ _ e),
+    all-imply (λ z. All (λ x. sameIdOrPair x z ≡ false) (seen ++ y ∷ [])) _ (λ z q. all-append-left (λ x. sameIdOrPair x z ≡ false) seen (y ∷ []) q) ys
+        (unseen (seen ++ y ∷ []) (s + 1) ys (then-right _ _ e)),
+  )
+
+  distinct : (seen : List Block) (s : ℕ) (l : List Block) → Passed (eachSeries d own h seen s l) → apart sameIdOrPair l ≡ true
+  unfolding eachSeries apart
+  distinct seen s [] e = refl
+  distinct seen s (y ∷ ys) e =
+      and-both _ _
+      (all-every _ ys (all-imply (λ z. All (λ x. sameIdOrPair x z ≡ false) (seen ++ y ∷ [])) (λ z. neg (sameIdOrPair y z) ≡ true)
+      (λ z q. neg-true _ (all-append-right (λ x. sameIdOrPair x z ≡ false) seen (y ∷ []) q .0)) ys (unseen (seen ++ y ∷ []) (s + 1) ys (then-right _ _ e))))
+      (distinct (seen ++ y ∷ []) (s + 1) ys (then-right _ _ e))
+
+-- ---- an accepted message
+
+pub record Accepts (book message : Bytes) : Type 0 where
+  pub was : Sound book
+  pub right : Message message
+  pub receiver-is : same (receiver (headOf message)) (receiver (dayBlock book)) ≡ true
+  pub sender-valid : eicValid (sender (headOf message)) ≡ true
+  pub day-is : same (dayOfMessage (headOf message)) (dayOfBook (dayBlock book)) ≡ true
+  pub n-is : nOf (headOf message) ≡ nOf (dayBlock book)
+  pub id-formed : idWellFormed (idOf (headOf message)) ≡ true
+  pub version-allowed : versionAllowed (version (headOf message)) ≡ true
+  pub each : All (Line (dayBlock book) (ownSeries (used book) (sender (headOf message))) (headOf message)) (seriesOf message)
+  pub distinct-all : apart sameIdOrPair (seriesOf message) ≡ true
+  pub present : All (λ x. has (pairIs (pair x)) (seriesOf message) ≡ true) (ownSeries (used book) (sender (headOf message)))
+  pub fits : newBlocks (ownSender (used book) (sender (headOf message))) (ownSeries (used book) (sender (headOf message))) (seriesOf message) ≤ freeSlots book
+
+version-inside : (stored h : Block) → versionBroken stored h ≡ false → versionAllowed (version h) ≡ true
+unfolding versionBroken versionAllowed
+version-inside stored h e =
+    split (isSender stored)
+    (λ t.
+    let q = rw t at e in
+    let v : version h ≡ version stored + 1 = is-yes _ _ (neg-no _ (or-right _ _ (or-left _ _ q))) in
+    and-both _ _ (upto-true 1 (version h) (omega arith)) (upto-true (version h) 999 (less-no _ _ (or-right _ _ q))))
+    (λ t.
+    let v : version h ≡ 1 = is-yes _ _ (neg-no _ (rw t at e)) in
+    and-both _ _ (upto-true 1 (version h) (omega arith)) (upto-true (version h) 999 (omega arith)))
+
+pub verdict-sound : (book message : Bytes) → Passed (verdict book message) → sound book ≡ true
+unfolding verdict rule1
+verdict-sound book message e = neg-no _ (passed _ 0 0 0 (then-left _ _ e))
+
+verdict-message : (book message : Bytes) → Passed (verdict book message) → messageRight message ≡ true
+unfolding verdict rule2
+verdict-message book message e = neg-no _ (passed _ 1 0 0 (then-left _ _ (then-right _ _ e)))
+
+pub accepts : (book message : Bytes) → Passed (verdict book message) → Accepts book message
+unfolding verdict judge rule3 rule4 rule5 rule6 rule16 rule17 absent
+accepts book message e =
+    let j3 = then-right _ _ (then-right _ _ e) in
+    let j4 = then-right _ _ j3 in
+    let j5 = then-right _ _ j4 in
+    let j6 = then-right _ _ j5 in
+    let j7 = then-right _ _ j6 in
+    let j16 = then-right _ _ j7 in
+    let r5 = passed _ 4 0 0 (then-left _ _ j5) in
+    let r6 = passed _ 5 0 0 (then-left _ _ j6) in
+    record {
+      was = sound-says book (verdict-sound book message e);
+      right = message-says message (verdict-message book message e);
+      receiver-is = neg-no _ (passed _ 2 0 0 (then-left _ _ j3));
+      sender-valid = neg-no _ (passed _ 3 0 0 (then-left _ _ j4));
+      day-is = neg-no _ (or-left _ _ r5);
+      n-is = is-yes _ _ (neg-no _ (or-right _ _ r5));
+      id-formed = neg-no _ (or-left _ _ r6);
+      version-allowed = version-inside _ _ (or-right _ _ r6);
+      each = lines _ _ _ [] 1 (seriesOf message) (then-left _ _ j7);
+      distinct-all = distinct _ _ _ [] 1 (seriesOf message) (then-left _ _ j7);
+      present = all-imply (λ x. neg (has (pairIs (pair x)) (seriesOf message)) ≡ false) (λ x. has (pairIs (pair x)) (seriesOf message) ≡ true) (λ x q. neg-no _ q)
+          (ownSeries (used book) (sender (headOf message))) (has-no-all _ _ (passed _ 15 0 0 (then-left _ _ j16)));
+      fits = less-no _ _ (passed _ 16 0 0 (then-right _ _ j16));
+    }
+
+-- ---- an accepted clock move
+
+pub record Moves (book : Bytes) (minute : ℕ) : Type 0 where
+  pub was : Sound book
+  pub later : clock (dayBlock book) ≤ minute
+  pub most : minute ≤ 11580
+  pub result : clockMoved book minute ≡ withClock minute (dayBlock book) ++ drop 512 book
+
+clock-range : (book : Bytes) (minute : ℕ) → sound book ≡ true → (clockAnswer book minute) .number ≡ 0 → (less minute (clock (dayBlock book)) or neg
+    (clockAllowed minute)) ≡ false
+unfolding clockAnswer advanced dayState
+clock-range book minute s e = split (less minute (clock (dayBlock book)) or neg (clockAllowed minute))
+    (λ t. absurd (let z : _≡_ {A = ℕ} 22 0 = rw (s, t) at e in omega arith)) (λ t. t)
+
+clock-sound : (book : Bytes) (minute : ℕ) → sound book ≡ false → (clockAnswer book minute) .number ≡ 0 → ⊥
+unfolding clockAnswer
+clock-sound book minute s e = let z : _≡_ {A = ℕ} 1 0 = rw s at e in omega arith
+
+pub moves : (book : Bytes) (minute : ℕ) → (clockAnswer book minute) .number ≡ 0 → Moves book minute
+unfolding clockMoved clockAllowed
+moves book minute e = split (sound book)
+    (λ s.
+    let r = clock-range book minute s e in
+    record {
+      was = sound-says book s;
+      later = less-no _ _ (or-left _ _ r);
+      most = upto-yes _ _ (neg-no _ (or-right _ _ r));
+      result = rw (is-equal _ _ e);
+    })
+    (λ s. absurd (clock-sound book minute s e))
+
+-- ---- an accepted opening
+
+pub record Opens (book : Bytes) (o : Opening) : Type 0 where
+  pub whole : length book % 512 ≡ 0
+  pub least : 2 ≤ length book / 512
+  pub most : length book / 512 ≤ 1001
+  pub day-length : length (dayBlockOf o) ≡ 512
+  pub check : checkRight (dayBlockOf o) ≡ true
+  pub day : daySound (dayBlockOf o) ≡ true
+  pub result : opened book o ≡ dayBlockOf o ++ replicate (length book - 512) 0
+
+day-block-of-length : (o : Opening) → openingAllowed o ≡ true → length (dayBlockOf o) ≡ 512
+unfolding openingAllowed dayBlockOf
+day-block-of-length o e =
+    let l1 : length (o .day) ≡ 8 = is-yes _ _ (and-left _ _ (and-left _ _ (and-left _ _ (and-left _ _ e)))) in
+    let l2 : length (o .area) ≡ 16 = is-yes _ _ (and-right _ _ (and-left _ _ (and-left _ _ (and-left _ _ e)))) in
+    let l3 : length (o .receiver) ≡ 16 = is-yes _ _ (and-right _ _ (and-left _ _ (and-left _ _ e))) in
+    sealed-length _ ∙ simp (length-append, length-replicate, little-length) (omega arith)
+
+day-block-of-right : (o : Opening) → length (dayBlockOf o) ≡ 512 → checkRight (dayBlockOf o) ≡ true
+unfolding dayBlockOf
+day-block-of-right o e = sealed-right _ (sym (sealed-length _) ∙ e)
+
+opening-passed : (book : Bytes) (o : Opening) → openNumber book o ≡ 0 → (wholeBlocks 2 1001 book ≡ true) × (openingAllowed o ≡ true)
+unfolding openNumber neg
+opening-passed book o e = split (wholeBlocks 2 1001 book)
+    (λ t. split (openingAllowed o) (λ u. (t, u)) (λ u. absurd (let z : _≡_ {A = ℕ} 21 0 = rw (t, u) at e in omega arith)))
+    (λ t. absurd (let z : _≡_ {A = ℕ} 20 0 = rw t at e in omega arith))
+
+pub opens : (book : Bytes) (o : Opening) → openNumber book o ≡ 0 → Opens book o
+unfolding wholeBlocks opened openingAllowed
+opens book o e =
+    let q = opening-passed book o e in
+    let l : length (dayBlockOf o) ≡ 512 = day-block-of-length o (q .1) in
+    record {
+      whole = is-yes _ _ (and-left _ _ (and-left _ _ (q .0)));
+      least = upto-yes _ _ (and-right _ _ (and-left _ _ (q .0)));
+      most = upto-yes _ _ (and-right _ _ (q .0));
+      day-length = l;
+      check = day-block-of-right o l;
+      day = and-right _ _ (q .1);
+      result = rw (is-equal _ _ e);
+    }

@@ -1,0 +1,216 @@
+-- A final value once given stays: the clock does not fall and the lead does not change, so a closed position stays closed; a pair once held stays held, by rule
+-- 16; and no message changes a value at a closed position, nor brings one in, by rule 14.
+use mathlib.Core.Path.{_≡_, refl, sym, ap, _∙_}
+use mathlib.Core.Bool.{Bool, true, false, cond, true≢false}
+use mathlib.Core.Option.{Option, none, some, Option·map, Option·getD}
+use mathlib.Core.List.{List, [], _∷_, _++_}
+use Prim.Native.Nat.{ℕ, zero, suc, _+_, _-_, _*_, _≤_, _<_}
+use native.Mathlib.Nat.{le-refl, le-trans}
+use native.Mathlib.Omega.{arith}
+use Rattle.laws.specs.Tests.{_or_, neg, is, less}
+use Rattle.laws.specs.Tests.Laws.{split, or-left, or-right, or-yes-left, or-yes-right, or-else, neg-yes, neg-true, is-yes, is-no, less-no, upto-no, upto-false}
+use Rattle.laws.specs.Lists.{same, find, has}
+use Rattle.laws.specs.Lists.Laws.{same-yes, all-find, has-yes, has-no-find, find-passes, find-sieve}
+use Rattle.paper.specs.declared.FinalAnswer.{FinalAnswer}
+use Rattle.paper.specs.Layout.{Bytes, Block, nOf, lead, clock, sender, pair, quantities, entry, quantity, withClock}
+use Rattle.paper.specs.Book.{dayBlock, used, slotOf, isSeriesOf, ownSeries}
+use Rattle.paper.specs.Sound.{sound}
+use Rattle.paper.specs.Rules.{numberOf, pairIs, isOpen, closed, storedOf, verdict}
+use Rattle.paper.specs.Acceptance.{isSeriesOfPair, accepted}
+use Rattle.paper.specs.Finals.{held, isHeld, heldAt, finalRefused, finalIn, final}
+use Rattle.paper.specs.Opening.{openNumber}
+use Rattle.paper.specs.Clock.{clockAnswer, clockMoved}
+use Rattle.paper.specs.Calls.{Call, Desk, step, run, opening, clockMove, submission, reading}
+use Rattle.facts.specs.Layout.{clock-with-clock, n-with-clock, lead-with-clock, entry-quantities, quantity-nothing, entry-nothing}
+use Rattle.promises.specs.Histories.{NotOpened, Unopened, finalGiven}
+use Rattle.promises.specs.Facts.{Sound, sound-says, is-sound, day-n, day-block-length, Line, Accepts, accepts, Moves, moves}
+use Rattle.promises.specs.Pairs.{pair-is-yes, of-pair-own, of-pair-other, viewFound, viewHeld}
+use Rattle.promises.specs.Parts.{Acceptance, parts}
+use Rattle.promises.specs.Stored.{present-pair, held-accepted}
+use Rattle.promises.specs.ReadBack.{used-accepted, day-block-accepted}
+use Rattle.promises.specs.Refusals.{opening-refused, clock-refused, submission-refused, submission-accepted}
+use Rattle.promises.specs.Soundness.{day-block-moved, used-moved}
+use Rattle.promises.specs.Invariant.{Invariant, invariant-run}
+
+-- what a reading at a closed position rests on: position k + 1
+record Later (b c : Bytes) : Type 0 where
+  pub n : nOf (dayBlock c) ≡ nOf (dayBlock b)
+  pub leads : lead (dayBlock c) ≡ lead (dayBlock b)
+  pub clocks : clock (dayBlock b) ≤ clock (dayBlock c)
+  pub kept : (e p : Bytes) → isHeld (held (used b) e p) ≡ true → isHeld (held (used c) e p) ≡ true
+  pub values : (e p : Bytes) (k : ℕ) → k < 100 → closed (dayBlock b) (k + 1) ≡ true → heldAt (held (used c) e p) k ≡ heldAt (held (used b) e p) k
+
+closed-later : (d e : Block) (p : ℕ) → lead e ≡ lead d → clock d ≤ clock e → closed d p ≡ true → closed e p ≡ true
+unfolding closed isOpen
+closed-later d e p l c h =
+    let q : 15 * (p - 1) + 10080 < clock d + lead d = upto-no _ _ (neg-yes _ h) in
+    neg-true _ (upto-false _ _ (omega arith))
+
+later-refl : (b : Bytes) → Later b b
+later-refl b = record { n = refl; leads = refl; clocks = le-refl (clock (dayBlock b)); kept = λ e p h. h; values = λ e p k l h. refl }
+
+later-trans : (a b c : Bytes) → Later a b → Later b c → Later a c
+later-trans a b c f g = record {
+  n = g .n ∙ f .n;
+  leads = g .leads ∙ f .leads;
+  clocks = le-trans (f .clocks) (g .clocks);
+  kept = λ e p h. g .kept e p (f .kept e p h);
+  values = λ e p k l h. g .values e p k l (closed-later (dayBlock a) (dayBlock b) (k + 1) (f .leads) (f .clocks) h) ∙ f .values e p k l h;
+}
+
+-- ---- a clock move
+
+later-moved : (book : Bytes) (minute : ℕ) → Moves book minute → Later book (clockMoved book minute)
+later-moved book minute m =
+    let u : used (clockMoved book minute) ≡ used book = used-moved book minute m in
+    let d : dayBlock (clockMoved book minute) ≡ withClock minute (dayBlock book) = day-block-moved book minute m in
+    let k : clock (withClock minute (dayBlock book)) ≡ minute = clock-with-clock minute (dayBlock book) (omega (arith, m .most)) (day-block-length book (m .was)) in
+    record {
+      n = ap nOf d ∙ n-with-clock minute (dayBlock book);
+      leads = ap lead d ∙ lead-with-clock minute (dayBlock book);
+      clocks = rw (d, k) (m .later);
+      kept = λ e p h. rw u h;
+      values = λ e p i l h. rw u;
+    }
+
+-- ---- an acceptance
+
+-- what the sender holds under a pair is what its stored series has
+own-held : (us : List Block) (e p : Bytes) → viewFound quantities (pairIs p) (ownSeries us e) ≡ held us e p
+unfolding viewFound ownSeries held
+own-held us e p = ap (Option·map quantities) (find-sieve (pairIs p) (isSeriesOf (slotOf us e)) (isSeriesOfPair (slotOf us e) p) (of-pair-own (slotOf us e) p)
+    (of-pair-other (slotOf us e) p) us)
+
+stored-value : (own : List Block) (y : Block) (k : ℕ) → k < 100 → quantity (storedOf own y) k ≡ heldAt (viewFound quantities (pairIs (pair y)) own) k
+unfolding storedOf heldAt viewFound
+stored-value own y k h = by (find (pairIs (pair y)) own)
+  where
+    by : (o : Option Block) → quantity (Option·getD o []) k ≡ entry (Option·getD (Option·map quantities o) []) k
+    by none = quantity-nothing k ∙ sym (entry-nothing k)
+    by (some x) = sym (entry-quantities x k h)
+
+is-held-found : (p : Block → Bool) (l : List Block) → has p l ≡ isHeld (viewFound quantities p l)
+unfolding viewFound isHeld
+is-held-found p l = split (has p l) (λ t. let q = has-yes p l t in rw (t, q .1)) (λ t. rw (t, has-no-find p l t))
+
+not-found : (p : Block → Bool) (l : List Block) → find p l ≡ none → viewFound quantities p l ≡ none
+unfolding viewFound
+not-found p l e = rw e
+
+module _ (book message : Bytes) (a : Accepts book message) where
+  open Acceptance (parts book message) using (us, h, series, own)
+
+  held-now : (e p : Bytes) → held (used (accepted book message)) e p ≡ cond (same (sender h) e) (viewFound quantities (pairIs p) series) (held us e p)
+  unfolding held viewHeld viewFound
+  held-now e p = ap (λ l. held l e p) (used-accepted book message a) ∙ held-accepted book message a e p
+
+  present : (p : Bytes) → has (pairIs p) own ≡ true → has (pairIs p) series ≡ true
+  present p e = present-pair own series (a .present) p e
+
+  kept-now : (e p : Bytes) → isHeld (held us e p) ≡ true → isHeld (held (used (accepted book message)) e p) ≡ true
+  kept-now e p t = ap isHeld (held-now e p) ∙ split (same (sender h) e)
+      (λ i. rw i (sym (is-held-found (pairIs p) series) ∙ present p (is-held-found (pairIs p) own ∙ ap isHeld (own-held us (sender h) p) ∙ rw (same-yes _ _ i) t)))
+      (λ i. rw i t)
+
+  -- the sender's own
+  own-value : (p : Bytes) (k : ℕ) → k < 100 → closed (dayBlock book) (k + 1) ≡ true → (o : Option Block) → find (pairIs p) series ≡ o → heldAt
+      (Option·map quantities o) k ≡ heldAt (held us (sender h) p) k
+  unfolding heldAt
+  own-value p k l c none e =
+      split (has (pairIs p) own)
+      (λ q. let z : some (has-yes (pairIs p) series (present p q) .0) ≡ none = sym (has-yes (pairIs p) series (present p q) .1)
+      ∙ e in let w : true ≡ false = cc in absurd (true≢false w))
+      (λ q. sym (ap (λ o. entry (Option·getD o []) k) (sym (own-held us (sender h) p) ∙ not-found (pairIs p) own (has-no-find (pairIs p) own q))))
+  own-value p k l c (some y) e =
+      let i : pair y ≡ p = pair-is-yes p y (find-passes _ series y e) in
+      entry-quantities y k l
+      ∙ all-find (Line (dayBlock book) own h) (pairIs p) series y (a .each) e .unchanged k l c
+      ∙ stored-value own y k l
+      ∙ ap (λ z. heldAt (viewFound quantities (pairIs z) own) k) i
+      ∙ ap (λ o. heldAt o k) (own-held us (sender h) p)
+
+  values-now : (e p : Bytes) (k : ℕ) → k < 100 → closed (dayBlock book) (k + 1) ≡ true → heldAt (held (used (accepted book message)) e p) k ≡ heldAt (held us e p) k
+  unfolding viewFound
+  values-now e p k l c = ap (λ o. heldAt o k) (held-now e p) ∙ split (same (sender h) e)
+      (λ t. rw (t, ← (same-yes (sender h) e t)) (own-value p k l c (find (pairIs p) series) refl))
+      (λ t. rw t)
+
+  later-accepted : Later book (accepted book message)
+  later-accepted = record {
+    n = ap nOf (day-block-accepted book message a);
+    leads = ap lead (day-block-accepted book message a);
+    clocks = rw (day-block-accepted book message a) (le-refl (clock (dayBlock book)));
+    kept = kept-now;
+    values = values-now;
+  }
+
+-- ---- any calls
+
+later-step : (k : Desk) (c : Call) → NotOpened k c → Later (k .book) ((step k c) .book)
+unfolding step
+later-step k (opening o) s = split (is (openNumber (k .book) o) 0) (λ t. absurd (s (is-yes _ _ t))) (λ t. rw (opening-refused (k .book) o (is-no _ _ t))
+    (later-refl (k .book)))
+later-step k (clockMove minute) s = split (is ((clockAnswer (k .book) minute) .number) 0)
+    (λ t. later-moved (k .book) minute (moves (k .book) minute (is-yes _ _ t)))
+    (λ t. rw (clock-refused (k .book) minute (is-no _ _ t)) (later-refl (k .book)))
+later-step k (submission m) s = split (is (numberOf (verdict (k .book) m)) 0)
+    (λ t. rw (submission-accepted (k .book) m (is-yes _ _ t)) (later-accepted (k .book) m (accepts (k .book) m (is-yes _ _ t))))
+    (λ t. rw (submission-refused (k .book) m (is-no _ _ t)) (later-refl (k .book)))
+later-step k reading s = later-refl (k .book)
+
+later-run : (k : Desk) (cs : List Call) → Unopened k cs → Later (k .book) ((run k cs) .book)
+unfolding run
+later-run k [] s = later-refl (k .book)
+later-run k (c ∷ cs) s = later-trans _ _ _ (later-step k c (s .0)) (later-run (step k c) cs (s .1))
+
+-- ---- the reading
+
+refused-not-given : (k v : ℕ) → finalRefused (suc k) ≡ finalGiven v → ⊥
+refused-not-given k v e = let z : suc k ≡ 0 = ap (λ (x : FinalAnswer). x .number) e in omega arith
+
+either : (x y z w : Bool) → (x ≡ true → z ≡ true) → (y ≡ true → w ≡ true) → (x or y) ≡ true → (z or w) ≡ true
+either x y z w f g e = split x (λ t. or-yes-left _ _ (f t)) (λ t. or-yes-right _ _ (g (or-else _ _ e t)))
+
+module _ (b c : Bytes) (f : Later b c) (few : nOf (dayBlock b) ≤ 100) (seller buyer : Bytes) (p v : ℕ) where
+  abbrev sold : List Block → Option Bytes
+  sold us = held us seller (buyer ++ seller)
+
+  abbrev bought : List Block → Option Bytes
+  bought us = held us buyer (buyer ++ seller)
+
+  final-in-later : finalIn (dayBlock b) (used b) seller buyer p ≡ finalGiven v → finalIn (dayBlock c) (used c) seller buyer p ≡ finalGiven v
+  unfolding finalIn neg
+  final-in-later r =
+      split (is p 0 or less (nOf (dayBlock b)) p) (λ t. absurd (refused-not-given 23 v (rw t at r)))
+      (λ t. split (closed (dayBlock b) p)
+      (λ u. split (isHeld (sold (used b)) or isHeld (bought (used b)))
+      (λ w.
+      let q : p - 1 + 1 ≡ p = omega (arith, position t) in
+      let l : p - 1 < 100 = omega (arith, position t, less-no _ _ (or-right _ _ t)) in
+      rw (
+        f .n,
+        t,
+        closed-later (dayBlock b) (dayBlock c) p (f .leads) (f .clocks) u,
+        either _ _ (isHeld (sold (used c))) (isHeld (bought (used c))) (f .kept seller (buyer ++ seller)) (f .kept buyer (buyer ++ seller)) w,
+        f .values seller (buyer ++ seller) (p - 1) l (rw q u),
+        f .values buyer (buyer ++ seller) (p - 1) l (rw q u),
+      ) (rw (t, u, w) at r))
+      (λ w. absurd (refused-not-given 25 v (rw (t, u, w) at r))))
+      (λ u. absurd (refused-not-given 24 v (rw (t, u) at r))))
+    where
+      positive : (n : ℕ) → (n ≡ 0 → ⊥) → 0 < n
+      positive zero g = absurd (g refl)
+      positive (suc n) g = omega arith
+
+      position : (is p 0 or less (nOf (dayBlock b)) p) ≡ false → 0 < p
+      position t = positive p (is-no p 0 (or-left _ _ t))
+
+final-later : (b c : Bytes) → Sound c → Later b c → (seller buyer : Bytes) (p v : ℕ) → final b seller buyer p ≡ finalGiven v → final c seller buyer p ≡ finalGiven v
+unfolding final
+final-later b c s f seller buyer p v r = split (sound b)
+    (λ t. rw (is-sound c s) (final-in-later b c f (day-n _ (sound-says b t .day)) seller buyer p v (rw t at r)))
+    (λ t. absurd (refused-not-given 0 v (rw t at r)))
+
+pub final-stays : (k : Desk) (calls : List Call) → Invariant (k .book) (k .messages) → Unopened k calls → (seller buyer : Bytes) (p v : ℕ)
+    → final (k .book) seller buyer p ≡ finalGiven v → final ((run k calls) .book) seller buyer p ≡ finalGiven v
+final-stays k calls i q seller buyer p v r = final-later (k .book) ((run k calls) .book) (invariant-run k calls i .good) (later-run k calls q) seller buyer p v r

@@ -1,0 +1,148 @@
+-- What holds of a book and the messages accepted since it was opened: it holds after an accepted opening, each call keeps it, and so it holds after any calls.
+use mathlib.Core.Path.{_≡_, refl, sym, ap, _∙_}
+use mathlib.Core.Bool.{cond}
+use mathlib.Core.Option.{some, Option·map}
+use mathlib.Core.List.{List, [], _∷_, _++_}
+use Prim.Native.Nat.{ℕ}
+use Rattle.laws.specs.Tests.{is}
+use Rattle.laws.specs.Tests.Laws.{split, is-yes, is-no}
+use Rattle.laws.specs.Lists.{same, find}
+use Rattle.paper.specs.Layout.{Bytes, Block, nOf, sender, nets, quantities}
+use Rattle.paper.specs.Book.{dayBlock, used, isSenderBlockOf, slotOf}
+use Rattle.paper.specs.Message.{headOf, seriesOf}
+use Rattle.paper.specs.Rules.{numberOf, pairIs, verdict}
+use Rattle.paper.specs.Nets.{netsOf}
+use Rattle.paper.specs.Acceptance.{isSeriesOfPair, accepted}
+use Rattle.paper.specs.Finals.{held}
+use Rattle.paper.specs.Opening.{Opening, openNumber, opened}
+use Rattle.paper.specs.Clock.{clockAnswer, clockMoved}
+use Rattle.paper.specs.PlainRule.{orElse, latest, seriesOfLatest, plainHeld, plainNets}
+use Rattle.paper.specs.Calls.{Call, Desk, step, run, opening, clockMove, submission, reading}
+use Rattle.facts.specs.Layout.{n-with-clock, content, headContent}
+use Rattle.promises.specs.Histories.{plainContent, plainHeadContent}
+use Rattle.promises.specs.Facts.{Sound, Accepts, accepts, Moves, moves, Opens, opens}
+use Rattle.promises.specs.Pairs.{viewFound, viewHeld, held-viewed}
+use Rattle.promises.specs.Renewal.{shape}
+use Rattle.promises.specs.Marks.{MarksTrue, marks-kept}
+use Rattle.promises.specs.Stored.{held-accepted, content-accepted}
+use Rattle.promises.specs.ReadBack.{used-accepted, day-block-accepted}
+use Rattle.promises.specs.Refusals.{opening-refused, clock-refused, submission-refused, submission-accepted}
+use Rattle.promises.specs.Soundness.{sound-accepted, day-block-moved, used-moved, sound-moved, used-opened, sound-opened}
+use Rattle.promises.specs.NetsTrue.{NetsTrue, nets-kept, nets-after, head-content-after}
+
+-- ---- the messages, one longer
+
+latest-more : (e : Bytes) (ms : List Bytes) (m : Bytes) → latest e (ms ++ m ∷ []) ≡ cond (same (sender (headOf m)) e) (some m) (latest e ms)
+unfolding latest orElse
+latest-more e [] m = refl
+latest-more e (x ∷ ms) m = split (same (sender (headOf m)) e) (λ t. rw (latest-more e ms m, t)) (λ t. rw (latest-more e ms m, t))
+
+view-more : (view : Block → Bytes) (ms : List Bytes) (m e p : Bytes)
+    → viewFound view (pairIs p) (seriesOfLatest (latest e (ms ++ m ∷ []))) ≡ cond (same (sender (headOf m)) e) (viewFound view (pairIs p) (seriesOf m))
+    (viewFound view (pairIs p) (seriesOfLatest (latest e ms)))
+unfolding seriesOfLatest
+view-more view ms m e p = split (same (sender (headOf m)) e) (λ t. rw (latest-more e ms m, t)) (λ t. rw (latest-more e ms m, t))
+
+plain-held-viewed : (ms : List Bytes) (e p : Bytes) → plainHeld ms e p ≡ viewFound quantities (pairIs p) (seriesOfLatest (latest e ms))
+unfolding plainHeld viewFound
+plain-held-viewed ms e p = refl
+
+plain-content-viewed : (ms : List Bytes) (e p : Bytes) → plainContent ms e p ≡ viewFound content (pairIs p) (seriesOfLatest (latest e ms))
+unfolding plainContent viewFound
+plain-content-viewed ms e p = refl
+
+plain-head-more : (ms : List Bytes) (m e : Bytes) → plainHeadContent (ms ++ m ∷ []) e ≡ cond (same (sender (headOf m)) e) (some (headContent (headOf m)))
+    (plainHeadContent ms e)
+unfolding plainHeadContent
+plain-head-more ms m e = split (same (sender (headOf m)) e) (λ t. rw (latest-more e ms m, t)) (λ t. rw (latest-more e ms m, t))
+
+plain-nets-more : (ms : List Bytes) (m e : Bytes) → plainNets (ms ++ m ∷ []) e ≡ cond (same (sender (headOf m)) e) (some (netsOf e (seriesOf m))) (plainNets ms e)
+unfolding plainNets
+plain-nets-more ms m e = split (same (sender (headOf m)) e) (λ t. rw (latest-more e ms m, t)) (λ t. rw (latest-more e ms m, t))
+
+-- ---- what holds
+
+pub record Invariant (book : Bytes) (messages : List Bytes) : Type 0 where
+  pub good : Sound book
+  pub stored : (e p : Bytes) → viewHeld quantities (used book) e p ≡ viewFound quantities (pairIs p) (seriesOfLatest (latest e messages))
+  pub contents : (e p : Bytes) → viewHeld content (used book) e p ≡ viewFound content (pairIs p) (seriesOfLatest (latest e messages))
+  pub heads : (e : Bytes) → Option·map headContent (find (isSenderBlockOf e) (used book)) ≡ plainHeadContent messages e
+  pub marks : MarksTrue (nOf (dayBlock book)) (used book)
+  pub kept-nets : NetsTrue (used book)
+  pub plain : (e : Bytes) → Option·map nets (find (isSenderBlockOf e) (used book)) ≡ plainNets messages e
+
+-- what is held is what was last sent, in the words of the plain rule
+pub held-plain : (book : Bytes) (ms : List Bytes) → Invariant book ms → (e p : Bytes) → held (used book) e p ≡ plainHeld ms e p
+held-plain book ms v e p = held-viewed (used book) e p ∙ v .stored e p ∙ sym (plain-held-viewed ms e p)
+
+pub content-plain : (book : Bytes) (ms : List Bytes) → Invariant book ms → (e p : Bytes) → Option·map content (find (isSeriesOfPair (slotOf (used book) e) p)
+    (used book)) ≡ plainContent ms e p
+unfolding viewHeld viewFound
+content-plain book ms v e p = v .contents e p ∙ sym (plain-content-viewed ms e p)
+
+invariant-accepted : (book : Bytes) (ms : List Bytes) (m : Bytes) → Accepts book m → Invariant book ms → Invariant (accepted book m) (ms ++ m ∷ [])
+invariant-accepted book ms m a v = record {
+  good = sound-accepted book m a;
+  stored = λ e p.
+      ap (λ us. viewHeld quantities us e p) (used-accepted book m a) ∙ held-accepted book m a e p
+      ∙ ap (cond (same (sender (headOf m)) e) (viewFound quantities (pairIs p) (seriesOf m))) (v .stored e p) ∙ sym (view-more quantities ms m e p);
+  contents = λ e p.
+      ap (λ us. viewHeld content us e p) (used-accepted book m a) ∙ content-accepted book m a e p
+      ∙ ap (cond (same (sender (headOf m)) e) (viewFound content (pairIs p) (seriesOf m))) (v .contents e p) ∙ sym (view-more content ms m e p);
+  heads = λ e.
+      ap (λ us. Option·map headContent (find (isSenderBlockOf e) us)) (used-accepted book m a) ∙ head-content-after book m a e
+      ∙ ap (cond (same (sender (headOf m)) e) (some (headContent (headOf m)))) (v .heads e) ∙ sym (plain-head-more ms m e);
+  marks = rw (day-block-accepted book m a, used-accepted book m a) (marks-kept (used book) (headOf m) (seriesOf m) (shape book m a) (nOf (dayBlock book))
+      (v .marks));
+  kept-nets = rw (used-accepted book m a) (nets-kept book m a (v .kept-nets));
+  plain = λ e.
+      ap (λ us. Option·map nets (find (isSenderBlockOf e) us)) (used-accepted book m a) ∙ nets-after book m a e
+      ∙ ap (cond (same (sender (headOf m)) e) (some (netsOf e (seriesOf m)))) (v .plain e) ∙ sym (plain-nets-more ms m e);
+}
+
+pub invariant-opened : (book : Bytes) (o : Opening) → openNumber book o ≡ 0 → Invariant (opened book o) []
+unfolding viewHeld viewFound find plainNets plainHeadContent latest seriesOfLatest MarksTrue NetsTrue
+invariant-opened book o e =
+    let p : Opens book o = opens book o e in
+    record {
+      good = sound-opened book o p;
+      stored = λ t k. rw (used-opened book o p);
+      contents = λ t k. rw (used-opened book o p);
+      heads = λ t. rw (used-opened book o p);
+      marks = rw (used-opened book o p) tt;
+      kept-nets = rw (used-opened book o p) tt;
+      plain = λ t. rw (used-opened book o p);
+    }
+
+invariant-moved : (book : Bytes) (ms : List Bytes) (minute : ℕ) → Moves book minute → Invariant book ms → Invariant (clockMoved book minute) ms
+invariant-moved book ms minute m v =
+    let n : nOf (dayBlock (clockMoved book minute)) ≡ nOf (dayBlock book) = ap nOf (day-block-moved book minute m) ∙ n-with-clock minute (dayBlock book) in
+    record {
+      good = sound-moved book minute m;
+      stored = λ e p. rw (used-moved book minute m) (v .stored e p);
+      contents = λ e p. rw (used-moved book minute m) (v .contents e p);
+      heads = λ e. rw (used-moved book minute m) (v .heads e);
+      marks = rw (n, used-moved book minute m) (v .marks);
+      kept-nets = rw (used-moved book minute m) (v .kept-nets);
+      plain = λ e. rw (used-moved book minute m) (v .plain e);
+    }
+
+-- ---- any calls
+
+pub invariant-step : (k : Desk) (c : Call) → Invariant (k .book) (k .messages) → Invariant ((step k c) .book) ((step k c) .messages)
+unfolding step
+invariant-step k (opening o) v = split (is (openNumber (k .book) o) 0)
+    (λ t. rw t (invariant-opened (k .book) o (is-yes _ _ t)))
+    (λ t. rw (t, opening-refused (k .book) o (is-no _ _ t)) v)
+invariant-step k (clockMove minute) v = split (is ((clockAnswer (k .book) minute) .number) 0)
+    (λ t. invariant-moved (k .book) (k .messages) minute (moves (k .book) minute (is-yes _ _ t)) v)
+    (λ t. rw (clock-refused (k .book) minute (is-no _ _ t)) v)
+invariant-step k (submission m) v = split (is (numberOf (verdict (k .book) m)) 0)
+    (λ t. rw (t, submission-accepted (k .book) m (is-yes _ _ t)) (invariant-accepted (k .book) (k .messages) m (accepts (k .book) m (is-yes _ _ t)) v))
+    (λ t. rw (t, submission-refused (k .book) m (is-no _ _ t)) v)
+invariant-step k reading v = v
+
+pub invariant-run : (k : Desk) (cs : List Call) → Invariant (k .book) (k .messages) → Invariant ((run k cs) .book) ((run k cs) .messages)
+unfolding run
+invariant-run k [] v = v
+invariant-run k (c ∷ cs) v = invariant-run (step k c) cs (invariant-step k c v)

@@ -1,0 +1,109 @@
+-- A sender's nets are the words of its sums at each position: within their range, for at most 200 quantities of at most 9,999,999 are summed; zero above n, for
+-- the quantities are; and they depend on the two sums alone.
+use mathlib.Core.Path.{_≡_, refl, sym, ap, _∙_}
+use mathlib.Core.Bool.{Bool, true, false, cond}
+use mathlib.Core.List.{List, _++_}
+use Prim.Native.Nat.{ℕ, zero, suc, _+_, _-_, _*_, _%_, _≤_, _<_}
+use native.Mathlib.Omega.{arith}
+use native.Mathlib.Decide.{ℕ-discrete}
+use lib.ListN.{length, length-append}
+use Rattle.laws.specs.Tests.{upto}
+use Rattle.laws.specs.Tests.Laws.{split, and-both, or-yes-left, or-yes-right, upto-no, upto-true, below-each}
+use Rattle.laws.specs.Lists.{same, total, All}
+use Rattle.laws.specs.Lists.Laws.{all-imply, total-none, total-bound}
+use Rattle.laws.specs.Bytes.{part, value, little, number}
+use Rattle.laws.specs.Bytes.Laws.{part-all, part-append-left, part-append-right, little-length, value-little}
+use Rattle.paper.specs.Layout.{Bytes, Block, inParty, outParty, entry, quantity, withNets}
+use Rattle.paper.specs.Ranges.{netAllowed, entriesAllowed}
+use Rattle.paper.specs.Nets.{bought, sold, netOf, netsTo, netsOf}
+use Rattle.facts.specs.Layout.{nets-with-nets, entry-nets, zeros-above}
+
+pub nets-to-length : (e : Bytes) (l : List Block) (m : ℕ) → length (netsTo e l m) ≡ 4 * m
+unfolding netsTo
+nets-to-length e l zero = refl
+nets-to-length e l (suc m) = omega (arith, length-append (netsTo e l m) (little 4 (netOf e l m)), little-length 4 (netOf e l m), nets-to-length e l m)
+
+pub nets-of-length : (e : Bytes) (l : List Block) → length (netsOf e l) ≡ 400
+unfolding netsOf
+nets-of-length e l = nets-to-length e l 100
+
+net-word : (e : Bytes) (l : List Block) (k : ℕ) → value (little 4 (netOf e l k)) ≡ netOf e l k
+unfolding netOf
+net-word e l k = value-little 4 _ (omega arith)
+
+nets-to-entry : (e : Bytes) (l : List Block) (m k : ℕ) → k < m → number 4 (4 * k) (netsTo e l m) ≡ netOf e l k
+unfolding netsTo number
+nets-to-entry e l zero k h = absurd (omega arith)
+nets-to-entry e l (suc m) k h = elim (ℕ-discrete k m) [ yes i ↦ last i | no i ↦ front (omega arith) (nets-to-entry e l m k (omega arith)) ]
+  where
+    last : k ≡ m → value (part (4 * k) 4 (netsTo e l m ++ little 4 (netOf e l m))) ≡ netOf e l k
+    last i =
+        let o : 4 * k ≡ length (netsTo e l m) + 0 = omega (arith, nets-to-length e l m) in
+        ap (λ z. value (part z 4 (netsTo e l m ++ little 4 (netOf e l m)))) o
+        ∙ ap value (part-append-right 0 4 (netsTo e l m) (little 4 (netOf e l m)) ∙ part-all 4 (little 4 (netOf e l m))
+        (omega (arith, little-length 4 (netOf e l m))))
+        ∙ net-word e l m ∙ ap (netOf e l) (sym i)
+
+    front : k < m → value (part (4 * k) 4 (netsTo e l m)) ≡ netOf e l k → value (part (4 * k) 4 (netsTo e l m ++ little 4 (netOf e l m))) ≡ netOf e l k
+    front t q = ap value (part-append-left (4 * k) 4 (netsTo e l m) (little 4 (netOf e l m)) (omega (arith, nets-to-length e l m))) ∙ q
+
+-- the word in the block that they are written over
+net-quantity : (e : Bytes) (l : List Block) (s : Block) → length s ≡ 512 → (k : ℕ) → k < 100 → quantity (withNets (netsOf e l) s) k ≡ netOf e l k
+unfolding netsOf entry
+net-quantity e l s w k h = sym (entry-nets (withNets (netsTo e l 100) s) k h) ∙ ap (λ v. number 4 (4 * k) v)
+    (nets-with-nets (netsTo e l 100) s (nets-to-length e l 100) w) ∙ nets-to-entry e l 100 k h
+
+-- ---- their range
+
+signed : (x y : ℕ) → x ≤ 1999999800 → y ≤ 1999999800 → netAllowed ((4503599627370496 + x - y) % 4294967296) ≡ true
+unfolding netAllowed
+signed x y h f =
+    split (upto ((4503599627370496 + x - y) % 4294967296) 1999999800) (λ t. or-yes-left _ _ t)
+    (λ t. let q : 1999999800 < (4503599627370496 + x - y) % 4294967296 = upto-no _ _ t in or-yes-right _ _ (upto-true _ _ (omega arith)))
+
+-- a share is what is counted of a quantity: all of it or nothing
+share-small : (t : Bool) (q m : ℕ) → q ≤ m → cond t q 0 ≤ m
+share-small true q m h = h
+share-small false q m h = omega arith
+
+share-none : (t : Bool) (q : ℕ) → q ≡ 0 → cond t q 0 ≡ 0
+share-none true q e = e
+share-none false q e = refl
+
+shares-small : (p : Block → Bool) (k : ℕ) (l : List Block) → All (λ x. quantity x k ≤ 9999999) l → total (λ x. cond (p x) (quantity x k) 0) l ≤ 9999999 * length l
+shares-small p k l h = total-bound (λ x. cond (p x) (quantity x k) 0) 9999999 l (all-imply (λ x. quantity x k ≤ 9999999) (λ x. cond (p x) (quantity x k) 0 ≤ 9999999)
+    (λ x q. share-small (p x) _ _ q) l h)
+
+shares-none : (p : Block → Bool) (k : ℕ) (l : List Block) → All (λ x. quantity x k ≡ 0) l → total (λ x. cond (p x) (quantity x k) 0) l ≡ 0
+shares-none p k l h = total-none (λ x. cond (p x) (quantity x k) 0) l (all-imply (λ x. quantity x k ≡ 0) (λ x. cond (p x) (quantity x k) 0 ≡ 0)
+    (λ x q. share-none (p x) _ q) l h)
+
+net-range : (e : Bytes) (l : List Block) (k : ℕ) → length l ≤ 200 → All (λ x. quantity x k ≤ 9999999) l → netAllowed (netOf e l k) ≡ true
+unfolding netOf bought sold
+net-range e l k n h =
+    let x = shares-small (λ x. same (inParty x) e) k l h in
+    let y = shares-small (λ x. same (outParty x) e) k l h in
+    signed _ _ (omega arith) (omega arith)
+
+net-none : (e : Bytes) (l : List Block) (k : ℕ) → All (λ x. quantity x k ≡ 0) l → netOf e l k ≡ 0
+unfolding netOf bought sold
+net-none e l k h = rw (shares-none (λ x. same (inParty x) e) k l h, shares-none (λ x. same (outParty x) e) k l h)
+
+pub nets-allowed : (e : Bytes) (l : List Block) (s : Block) (n : ℕ) → n ≤ 100 → length s ≡ 512 → length l ≤ 200
+    → ((k : ℕ) → k < n → All (λ x. quantity x k ≤ 9999999) l) → ((k : ℕ) → k < 100 → n ≤ k → All (λ x. quantity x k ≡ 0) l)
+    → entriesAllowed netAllowed n (withNets (netsOf e l) s) ≡ true
+unfolding entriesAllowed
+nets-allowed e l s n h w f low high =
+    and-both _ _ (below-each (λ k. netAllowed (quantity (withNets (netsOf e l) s) k)) n (λ k t. rw (net-quantity e l s w k (omega arith))
+    (net-range e l k f (low k t))))
+    (zeros-above n (withNets (netsOf e l) s) h (λ k t u. net-quantity e l s w k t ∙ net-none e l k (high k t u)))
+
+-- ---- what they depend on
+
+pub nets-agree : (e : Bytes) (l r : List Block) → ((k : ℕ) → k < 100 → (bought e l k ≡ bought e r k) × (sold e l k ≡ sold e r k)) → netsOf e l ≡ netsOf e r
+unfolding netsOf netsTo netOf
+nets-agree e l r f = by 100 (omega arith)
+  where
+    by : (m : ℕ) → m ≤ 100 → netsTo e l m ≡ netsTo e r m
+    by zero h = refl
+    by (suc m) h = let q = f m (omega arith) in rw (by m (omega arith), q .0, q .1)

@@ -1,0 +1,137 @@
+-- True nets stay true: the nets kept for the message's sender are summed over the message, and its stored series are then the message's; another sender's block
+-- and series stay.
+use mathlib.Core.Path.{_≡_, refl, sym, ap, ap₂, _∙_}
+use mathlib.Core.Bool.{true, false, cond}
+use mathlib.Core.Option.{Option, none, some, Option·map}
+use mathlib.Core.List.{List, map}
+use Prim.Native.Nat.{ℕ, _<_}
+use Rattle.laws.specs.Tests.{is}
+use Rattle.laws.specs.Tests.Laws.{split}
+use Rattle.laws.specs.Lists.{same, find, has, keep, All}
+use Rattle.laws.specs.Lists.Laws.{same-yes, same-no, has-yes, find-passes, find-append-first, find-append-second, find-append-only, find-map}
+use Rattle.paper.specs.Layout.{Bytes, Block, nOf, sender, nets, inParty, outParty, quantity, withSendersSlot}
+use Rattle.paper.specs.Book.{dayBlock, used, isSender, isSeries, isSenderBlockOf, slotOf, isSeriesOf, ownSeries}
+use Rattle.paper.specs.Message.{headOf, seriesOf}
+use Rattle.paper.specs.Nets.{bought, sold, netsOf}
+use Rattle.paper.specs.Acceptance.{senderKept, fresh, placed, usedAfter}
+use Rattle.facts.specs.Layout.{nets-with-nets, Alike, alike-senders-slot, headContent, head-content-with-nets, alike-in-party, alike-out-party, alike-quantity}
+use Rattle.facts.specs.Book.{sender-not-series, sender-block-sender, sender-block-eic, sender-block-yes, series-of-other}
+use Rattle.promises.specs.Laws.{has-map-each}
+use Rattle.promises.specs.Facts.{Accepts}
+use Rattle.promises.specs.Remarking.{remarked-no-series, alike-remarked, sender-block-remarked}
+use Rattle.promises.specs.Renewal.{Shape, shape, sender-kept-sender, sender-kept-is-sender, renewed-sender, renewed-other, sender-block-renewed}
+use Rattle.promises.specs.Senders.{slots-differ, fresh-new, fresh-no-sender-block, slot-after-own, slot-after-other}
+use Rattle.promises.specs.Parts.{afterOf, Acceptance, parts}
+use Rattle.promises.specs.Sums.{total-own, total-other}
+use Rattle.promises.specs.Nets.{nets-of-length, nets-agree}
+use Rattle.promises.specs.SoundSenders.{by-sender}
+
+unfoldable pub NetsTrue : List Block → Type 0
+NetsTrue us = All (λ s. isSender s ≡ true → nets s ≡ netsOf (sender s) (ownSeries us (sender s))) us
+
+-- the share of a series in a sum, the same for series that agree but for sender's slot and mark
+share-in : (e : Bytes) (k : ℕ) (x y : Block) → k < 100 → Alike x y → cond (same (inParty x) e) (quantity x k) 0 ≡ cond (same (inParty y) e) (quantity y k) 0
+share-in e k x y h a = rw (alike-in-party x y a, alike-quantity x y a k h)
+
+share-out : (e : Bytes) (k : ℕ) (x y : Block) → k < 100 → Alike x y → cond (same (outParty x) e) (quantity x k) 0 ≡ cond (same (outParty y) e) (quantity y k) 0
+share-out e k x y h a = rw (alike-out-party x y a, alike-quantity x y a k h)
+
+module _ (book message : Bytes) (a : Accepts book message) where
+  open Acceptance (parts book message) using (us, h, series, slot, again, now, put, after)
+
+  c : Shape (used book) (headOf message) (seriesOf message)
+  c = shape book message a
+
+  nets-sender-kept : nets (senderKept h series) ≡ netsOf (sender h) series
+  unfolding senderKept
+  nets-sender-kept = nets-with-nets (netsOf (sender h) series) h (nets-of-length (sender h) series) (c .head-whole)
+
+  -- ---- by sums
+
+  nets-own : (e : Bytes) → netsOf e series ≡ netsOf e (keep (isSeriesOf slot) after)
+  unfolding bought sold
+  nets-own e = nets-agree e series (keep (isSeriesOf slot) after) (λ k t. (
+    sym (total-own book message a (λ x. cond (same (inParty x) e) (quantity x k) 0) (λ x. share-in e k (put x) x t (alike-remarked _ _ _ x))
+        (λ x. share-in e k (withSendersSlot slot x) x t (alike-senders-slot slot x))),
+    sym (total-own book message a (λ x. cond (same (outParty x) e) (quantity x k) 0) (λ x. share-out e k (put x) x t (alike-remarked _ _ _ x))
+        (λ x. share-out e k (withSendersSlot slot x) x t (alike-senders-slot slot x))),
+  ))
+
+  nets-other : (e : Bytes) (i : ℕ) → is i slot ≡ false → netsOf e (keep (isSeriesOf i) us) ≡ netsOf e (keep (isSeriesOf i) after)
+  unfolding bought sold
+  nets-other e i f = nets-agree e (keep (isSeriesOf i) us) (keep (isSeriesOf i) after) (λ k t. (
+    sym (total-other book message a (λ x. cond (same (inParty x) e) (quantity x k) 0) (λ x. share-in e k (put x) x t (alike-remarked _ _ _ x))
+        (λ x. share-in e k (withSendersSlot slot x) x t (alike-senders-slot slot x)) i f),
+    sym (total-other book message a (λ x. cond (same (outParty x) e) (quantity x k) 0) (λ x. share-out e k (put x) x t (alike-remarked _ _ _ x))
+        (λ x. share-out e k (withSendersSlot slot x) x t (alike-senders-slot slot x)) i f),
+  ))
+
+  -- ---- of each sender
+
+  pub nets-kept : NetsTrue (used book) → NetsTrue (afterOf book message)
+  unfolding NetsTrue ownSeries
+  nets-kept n =
+      by-sender book message a (λ s. nets s ≡ netsOf (sender s) (keep (isSeriesOf (slotOf after (sender s))) after))
+      (nets-sender-kept ∙ nets-own (sender h)
+      ∙ ap₂ (λ e i. netsOf e (keep (isSeriesOf i) after)) (sym (sender-kept-sender us h series c))
+      (sym (ap (slotOf after) (sender-kept-sender us h series c) ∙ slot-after-own us h series c (nOf (dayBlock book)))))
+      (λ s. isSender s ≡ true → nets s ≡ netsOf (sender s) (keep (isSeriesOf (slotOf us (sender s))) us)) n
+      (λ x q s e. q s ∙ nets-other (sender x) (slotOf us (sender x)) (slots-differ us (sender h) (sender x) e)
+      ∙ ap (λ i. netsOf (sender x) (keep (isSeriesOf i) after)) (sym (slot-after-other us h series c (nOf (dayBlock book)) (sender x) e)))
+
+  -- ---- by EIC
+
+  no-series : (e : Bytes) (x : Block) → isSenderBlockOf e x ≡ true → isSeries x ≡ false
+  no-series e x t = sender-not-series x (sender-block-sender e x t)
+
+  find-marked : (e : Bytes) → find (isSenderBlockOf e) after ≡ find (isSenderBlockOf e) now
+  unfolding usedAfter
+  find-marked e = find-map put (isSenderBlockOf e) (isSenderBlockOf e) (sender-block-remarked _ _ _ e) now ∙ stays (find (isSenderBlockOf e) now) refl
+    where
+      stays : (o : Option Block) → find (isSenderBlockOf e) now ≡ o → Option·map put o ≡ o
+      stays none f = refl
+      stays (some x) f = ap some (remarked-no-series _ _ _ x (no-series e x (find-passes _ now x f)))
+
+  find-renewed : (e : Bytes) → find (isSenderBlockOf e) (map again us) ≡ Option·map again (find (isSenderBlockOf e) us)
+  find-renewed e = find-map again (isSenderBlockOf e) (isSenderBlockOf e) (sender-block-renewed us h series c e) us
+
+  find-own : find (isSenderBlockOf (sender h)) now ≡ some (senderKept h series)
+  unfolding placed find
+  find-own = split (has (isSenderBlockOf (sender h)) us)
+      (λ t.
+      let q = has-yes (isSenderBlockOf (sender h)) us t in
+      find-append-first (isSenderBlockOf (sender h)) (map again us) (fresh us h series) (senderKept h series)
+      (find-renewed (sender h) ∙ ap (Option·map again) (q .1) ∙ ap some (renewed-sender us h series c (q .0) (find-passes _ us (q .0) (q .1)))))
+      (λ t. find-append-second (isSenderBlockOf (sender h)) (map again us) (fresh us h series) (has-map-each again (isSenderBlockOf (sender h))
+      (isSenderBlockOf (sender h)) (sender-block-renewed us h series c (sender h)) us ∙ t)
+      ∙ ap (find (isSenderBlockOf (sender h))) (fresh-new us h series t)
+      ∙ rw (sender-block-yes (sender h) (senderKept h series) (sender-kept-is-sender us h series c) (sender-kept-sender us h series c)))
+
+  find-other : (e : Bytes) → same (sender h) e ≡ false → find (isSenderBlockOf e) now ≡ find (isSenderBlockOf e) us
+  unfolding placed
+  find-other e d = find-append-only (isSenderBlockOf e) (map again us) (fresh us h series) (fresh-no-sender-block us h series c e d) ∙ find-renewed e ∙ stays
+      (find (isSenderBlockOf e) us) refl
+    where
+      stays : (o : Option Block) → find (isSenderBlockOf e) us ≡ o → Option·map again o ≡ o
+      stays none f = refl
+      stays (some x) f =
+          let p : isSenderBlockOf e x ≡ true = find-passes _ us x f in
+          ap some (renewed-other us h series c x
+          (split (isSenderBlockOf (sender h) x) (λ u. absurd (same-no (sender h) e d (sym (sender-block-eic (sender h) x u) ∙ sender-block-eic e x p))) (λ u. u))
+          (series-of-other slot x (no-series e x p)))
+
+  find-after : (e : Bytes) → find (isSenderBlockOf e) after ≡ cond (same (sender h) e) (some (senderKept h series)) (find (isSenderBlockOf e) us)
+  find-after e = find-marked e ∙ split (same (sender h) e) (λ t. rw (t, ← (same-yes (sender h) e t)) find-own) (λ t. rw t (find-other e t))
+
+  pub nets-after : (e : Bytes) → Option·map nets (find (isSenderBlockOf e) (afterOf book message)) ≡ cond (same (sender (headOf message)) e)
+      (some (netsOf e (seriesOf message))) (Option·map nets (find (isSenderBlockOf e) (used book)))
+  nets-after e = ap (Option·map nets) (find-after e) ∙ split (same (sender h) e)
+      (λ t. rw t (ap some (nets-sender-kept ∙ ap (λ z. netsOf z series) (same-yes _ _ t)))) (λ t. rw t)
+
+  head-content-kept : headContent (senderKept h series) ≡ headContent h
+  unfolding senderKept
+  head-content-kept = head-content-with-nets _ h
+
+  pub head-content-after : (e : Bytes) → Option·map headContent (find (isSenderBlockOf e) (afterOf book message)) ≡ cond (same (sender (headOf message)) e)
+      (some (headContent (headOf message))) (Option·map headContent (find (isSenderBlockOf e) (used book)))
+  head-content-after e = ap (Option·map headContent) (find-after e) ∙ split (same (sender h) e) (λ t. rw t (ap some head-content-kept)) (λ t. rw t)

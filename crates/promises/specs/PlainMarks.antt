@@ -1,0 +1,143 @@
+-- The marks kept are the plain rule's: a true mark is worked out from the series' quantities and its counterpart's, these are what the two parties last sent
+-- under the pair, and the slot in it is the counterpart's.
+use mathlib.Core.Path.{_≡_, refl, sym, ap, ap₂, _∙_}
+use mathlib.Core.Bool.{Bool, true, false, true≢false}
+use mathlib.Core.Option.{Option, none, some, Option·map, Option·getD}
+use mathlib.Core.List.{List, [], _∷_}
+use Prim.Native.Nat.{ℕ, zero, suc, _<_}
+use native.Mathlib.Omega.{arith}
+use Rattle.laws.specs.Tests.{_or_, neg}
+use Rattle.laws.specs.Tests.Laws.{split, clash, and-left, and-right, and-both, or-yes-left, or-yes-right, neg-yes, neg-true}
+use Rattle.laws.specs.Lists.{same, find, place, nth, every, apart, All}
+use Rattle.laws.specs.Lists.Laws.{same-equal, all-imply, all-nth, find-passes, find-agree, place-length, nth-place, place-agree, every-all, all-every}
+use Rattle.laws.specs.Bytes.{number}
+use Rattle.paper.specs.Layout.{Bytes, Block, nOf, sender, nets, sendersSlot, pair, mark, partner, quantities}
+use Rattle.paper.specs.Book.{dayBlock, used, isSender, isSeries, slotOf, ownSeries}
+use Rattle.paper.specs.Sound.{sameSeries}
+use Rattle.paper.specs.Marks.{isCounterpart, counterpart, counterpartSlot, markOf, markIn}
+use Rattle.paper.specs.Nets.{netsOf}
+use Rattle.paper.specs.Acceptance.{isSeriesOfPair}
+use Rattle.paper.specs.Finals.{held}
+use Rattle.paper.specs.PlainRun.{markTrue, netsTrue, plainRun}
+use Rattle.paper.specs.PlainRule.{plainHeld, otherParty, plainMark}
+use Rattle.facts.specs.Layout.{mark-partner}
+use Rattle.promises.specs.Facts.{is-sound, used-few}
+use Rattle.promises.specs.Pairs.{pair-is-equal, of-pair-yes, of-pair-series, of-pair-slot, of-pair-pair, viewFound, viewHeld, held-viewed}
+use Rattle.promises.specs.Marks.{MarksTrue}
+use Rattle.promises.specs.Senders.{slot-of-one, Owner, Owned, owned}
+use Rattle.promises.specs.SoundApart.{same-series-yes, same-pair-yes}
+use Rattle.promises.specs.SoundSeries.{partner-in}
+use Rattle.promises.specs.NetsTrue.{NetsTrue}
+use Rattle.promises.specs.Invariant.{Invariant, held-plain}
+use Rattle.promises.specs.Sides.{sides}
+
+-- ---- a series is the one that its sender has under its pair
+
+found-itself : (l : List Block) → apart sameSeries l ≡ true → (slot : ℕ) (x : Block) → nth l slot ≡ some x → isSeries x ≡ true → find
+    (isSeriesOfPair (sendersSlot x) (pair x)) l ≡ some x
+unfolding nth apart find
+found-itself [] a slot x e s = let z : true ≡ false = cc in absurd (true≢false z)
+found-itself (y ∷ ys) a zero x e s = let z : true ≡ false = cc in absurd (true≢false z)
+found-itself (y ∷ ys) a (suc zero) x e s = let i : y ≡ x = cc in rw (i, of-pair-yes (sendersSlot x) (pair x) x s refl (pair-is-equal (pair x) x refl))
+found-itself (y ∷ ys) a (suc (suc k)) x e s =
+    let n : sameSeries y x ≡ false = neg-yes _ (all-nth (λ z. neg (sameSeries y z) ≡ true) ys (suc k) x (every-all _ ys (and-left _ _ a)) e) in
+    let q : isSeriesOfPair (sendersSlot x) (pair x) y ≡ false = split (isSeriesOfPair (sendersSlot x) (pair x) y)
+    (λ t. clash (same-series-yes y x (of-pair-series _ _ y t) s (of-pair-slot _ _ y t) (same-pair-yes y x (of-pair-pair _ _ y t))) n) (λ t. t) in
+    rw q (found-itself ys (and-right _ _ a) (suc k) x e s)
+
+-- ---- a mark and the slot in it
+
+slot-in-mark : (n : ℕ) (a q : Bytes) (slot : ℕ) (x : Block) → slot < 65536 → mark x ≡ markOf n a (some q) slot → partner x ≡ slot
+unfolding markOf
+slot-in-mark n a q slot x h e = mark-partner x ∙ ap (number 2 2) e ∙ partner-in _ _ slot h
+
+mark-by-partner : (n : ℕ) (a : Bytes) (o : Option Bytes) (slot : ℕ) (x : Block) → slot < 65536 → mark x ≡ markOf n a o slot → mark x ≡ markOf n a o (partner x)
+unfolding markOf
+mark-by-partner n a none slot x h e = e
+mark-by-partner n a (some q) slot x h e = rw (slot-in-mark n a q slot x h e) e
+
+quantities-found-yes : (p : Block → Bool) (l : List Block) (q : Bytes) → viewFound quantities p l ≡ some q → (y : Block) × (find p l ≡ some y) × (quantities y ≡ q)
+unfolding viewFound
+quantities-found-yes p l q e = by (find p l) refl
+  where
+    by : (o : Option Block) → find p l ≡ o → (y : Block) × (find p l ≡ some y) × (quantities y ≡ q)
+    by none f = let z : none ≡ some q = sym (ap (Option·map quantities) f) ∙ e in let w : true ≡ false = cc in absurd (true≢false w)
+    by (some y) f = let z : some (quantities y) ≡ some q = sym (ap (Option·map quantities) f) ∙ e in (y, f, cc)
+
+module _ (book : Bytes) (ms : List Bytes) (v : Invariant book ms) where
+  abbrev us : List Block
+  us = used book
+
+  abbrev n : ℕ
+  n = nOf (dayBlock book)
+
+  few : (p : Block → Bool) → place p us < 65536
+  few p = omega (arith, place-length p us, used-few book (v .good))
+
+  owner-named : (slot : ℕ) (x : Block) → nth (used book) slot ≡ some x → isSeries x ≡ true → Owner (used book) x
+  unfolding Owned
+  owner-named slot x h s = all-nth (λ y. isSeries y ≡ true → Owner us y) us slot x (owned book (v .good)) h s
+
+  pub sender-named : (slot : ℕ) (x : Block) → nth (used book) slot ≡ some x → isSeries x ≡ true → (e : Bytes) × (slotOf (used book) e ≡ sendersSlot x)
+  sender-named slot x h s = let w = owner-named slot x h s in (w .eic, w .slot)
+
+  -- a series x in a slot, and its sender e
+  module _ (slot : ℕ) (x : Block) (h : nth (used book) slot ≡ some x) (s : isSeries x ≡ true) (e : Bytes) (i : slotOf (used book) e ≡ sendersSlot x) where
+    abbrev other : Bytes
+    other = otherParty e (pair x)
+
+    eic-is : e ≡ owner-named slot x h s .eic
+    eic-is = slot-of-one us (owner-named slot x h s .eic) e (owner-named slot x h s .known) (i ∙ sym (owner-named slot x h s .slot))
+
+    agree : All (λ y. isCounterpart (slotOf us e) (pair x) y ≡ isSeriesOfPair (slotOf us other) (pair x) y) us
+    agree = sides us e (pair x) (rw eic-is (owner-named slot x h s .known)) (rw eic-is (owner-named slot x h s .party)) (owned book (v .good))
+
+    due : mark x ≡ markOf n (quantities x) (plainHeld ms other (pair x)) (place (isSeriesOfPair (slotOf us other) (pair x)) us)
+    unfolding MarksTrue markIn counterpart counterpartSlot held
+    due =
+        all-nth (λ y. isSeries y ≡ true → mark y ≡ markIn n us y) us slot x (v .marks) h s
+        ∙ ap (λ o. markOf n (quantities x) (Option·map quantities (find (isCounterpart o (pair x)) us)) (place (isCounterpart o (pair x)) us)) (sym i)
+        ∙ ap₂ (λ o p. markOf n (quantities x) o p) (ap (Option·map quantities) (find-agree _ _ us agree) ∙ held-plain book ms v other (pair x))
+        (place-agree _ _ us agree)
+
+    own-held : plainHeld ms e (pair x) ≡ some (quantities x)
+    unfolding held
+    own-held =
+        sym (held-plain book ms v e (pair x)) ∙ ap (λ o. Option·map quantities (find (isSeriesOfPair o (pair x)) us)) i
+        ∙ ap (Option·map quantities) (found-itself us (v .good .series) slot x h s)
+
+    pub mark-plain : mark x ≡ plainMark (nOf (dayBlock book)) ms e (pair x) (partner x)
+    unfolding plainMark
+    mark-plain =
+        mark-by-partner n (quantities x) (plainHeld ms other (pair x)) _ x (few _) due
+        ∙ ap (λ o. markOf n (Option·getD o []) (plainHeld ms other (pair x)) (partner x)) (sym own-held)
+
+    pub partner-plain : (q : Bytes) → plainHeld ms (otherParty e (pair x)) (pair x) ≡ some q
+        → (y : Block) × (nth (used book) (partner x) ≡ some y) × (slotOf (used book) (otherParty e (pair x)) ≡ sendersSlot y) × (pair y ≡ pair x) ×
+        (quantities y ≡ q)
+    unfolding viewHeld
+    partner-plain q f =
+        let r = quantities-found-yes (isSeriesOfPair (slotOf us other) (pair x)) us q (sym (held-viewed us other (pair x)) ∙ held-plain book ms v other (pair x)
+        ∙ f) in
+        let y : Block = r .0 in
+        let g : isSeriesOfPair (slotOf us other) (pair x) y ≡ true = find-passes _ us y (r .1) in
+        let p : partner x ≡ place (isSeriesOfPair (slotOf us other) (pair x)) us = slot-in-mark n (quantities x) q _ x (few _)
+        (due ∙ ap (λ o. markOf n (quantities x) o (place (isSeriesOfPair (slotOf us other) (pair x)) us)) f) in
+        (y, ap (nth us) p ∙ nth-place _ us ∙ r .1, sym (of-pair-slot _ _ y g), of-pair-pair _ _ y g, r .2)
+
+  -- ---- the plain run
+
+  all-marks : every (markTrue n us) us ≡ true
+  unfolding MarksTrue markTrue
+  all-marks = all-every _ us (all-imply (λ x. isSeries x ≡ true → mark x ≡ markIn n us x) (λ x. (neg (isSeries x) or same (mark x) (markIn n us x)) ≡ true)
+      (λ x f. split (isSeries x) (λ t. or-yes-right _ _ (same-equal _ _ (f t))) (λ t. or-yes-left _ _ (neg-true _ t))) us (v .marks))
+
+  all-nets : every (netsTrue us) us ≡ true
+  unfolding NetsTrue netsTrue
+  all-nets = all-every _ us (all-imply (λ x. isSender x ≡ true → nets x ≡ netsOf (sender x) (ownSeries us (sender x)))
+      (λ x. (neg (isSender x) or same (nets x) (netsOf (sender x) (ownSeries us (sender x)))) ≡ true)
+      (λ x f. split (isSender x) (λ t. or-yes-right _ _ (same-equal _ _ (f t))) (λ t. or-yes-left _ _ (neg-true _ t))) us (v .kept-nets))
+
+  pub says-yes : plainRun book ≡ record { number = 0; holds = true }
+  unfolding plainRun
+  says-yes = rw (is-sound book (v .good), and-both _ _ all-marks all-nets)

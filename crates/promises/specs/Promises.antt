@@ -1,0 +1,137 @@
+-- THE PAGE OF PROMISES. Each promise is stated in the words of `paper`, with a few more that stand in Histories, and content, headContent and ButMark in the facts of
+-- the layout; each proof is one line that cites the file that carries the weight.
+use mathlib.Core.Path.{_≡_}
+use mathlib.Core.Bool.{true, false}
+use mathlib.Core.Option.{some, Option·map}
+use mathlib.Core.List.{List}
+use Prim.Native.Nat.{ℕ, _+_, _*_}
+use lib.ListN.{length, drop}
+use Rattle.laws.specs.Lists.{find, nth}
+use Rattle.paper.specs.Layout.{Bytes, Block, nOf, sender, nets, sendersSlot, pair, mark, partner, quantities}
+use Rattle.paper.specs.Book.{dayBlock, used, freeSlots, isSeries, isSenderBlockOf, slotOf, isSeriesOf, ownSender, ownSeries}
+use Rattle.paper.specs.Sound.{sound}
+use Rattle.paper.specs.Message.{headOf}
+use Rattle.paper.specs.Rules.{numberOf, verdict}
+use Rattle.paper.specs.Acceptance.{isSeriesOfPair, accepted, submitted}
+use Rattle.paper.specs.Finals.{held, final}
+use Rattle.paper.specs.Opening.{Opening, openNumber, opened}
+use Rattle.paper.specs.Clock.{clockAnswer, clockMoved}
+use Rattle.paper.specs.PlainRun.{plainRun}
+use Rattle.paper.specs.PlainRule.{plainHeld, otherParty, plainMark, plainNets}
+use Rattle.paper.specs.Calls.{Call, Desk, run}
+use Rattle.facts.specs.Layout.{content, headContent, ButMark}
+use Rattle.promises.specs.Histories.{begun, reached, Unopened, finalGiven, plainContent, plainHeadContent, isCounterpartOf, Determines}
+use Rattle.promises.specs.Facts.{accepts}
+use Rattle.promises.specs.ReadBack.{day-block-accepted}
+use Rattle.promises.specs.Refusals.{opening-refused, clock-refused, submission-refused}
+use Rattle.promises.specs.Soundness.{opened-sound, moved-sound, submitted-sound}
+use Rattle.promises.specs.Invariant.{Invariant, held-plain, content-plain, invariant-opened, invariant-run}
+use Rattle.promises.specs.PlainMarks.{sender-named, mark-plain, partner-plain, says-yes}
+use Rattle.promises.specs.Finals.{final-stays}
+use Rattle.promises.specs.Others.{others-kept, rest-kept}
+use Rattle.promises.specs.Isolation.{verdict-isolated, determined}
+
+-- ---- 1. Soundness is kept, and a refusal changes nothing
+
+pub opening-gives-a-sound-book : (book : Bytes) (o : Opening) → openNumber book o ≡ 0 → sound (opened book o) ≡ true
+opening-gives-a-sound-book = opened-sound
+
+pub clock-move-keeps-soundness : (book : Bytes) (minute : ℕ) → (clockAnswer book minute) .number ≡ 0 → sound (clockMoved book minute) ≡ true
+clock-move-keeps-soundness = moved-sound
+
+pub submission-keeps-soundness : (book message : Bytes) → numberOf (verdict book message) ≡ 0 → sound (submitted book message) ≡ true
+submission-keeps-soundness = submitted-sound
+
+pub refused-opening-changes-nothing : (book : Bytes) (o : Opening) → (openNumber book o ≡ 0 → ⊥) → opened book o ≡ book
+refused-opening-changes-nothing = opening-refused
+
+pub refused-clock-move-changes-nothing : (book : Bytes) (minute : ℕ) → ((clockAnswer book minute) .number ≡ 0 → ⊥) → clockMoved book minute ≡ book
+refused-clock-move-changes-nothing = clock-refused
+
+pub refused-submission-changes-nothing : (book message : Bytes) → (numberOf (verdict book message) ≡ 0 → ⊥) → submitted book message ≡ book
+refused-submission-changes-nothing = submission-refused
+
+-- ---- 2. Demand 3, marks and nets
+-- For every buffer, every accepted opening o and every sequence of calls after it: openings, clock moves, submissions and readings, accepted or refused, in any
+-- order, with any contents.
+-- `book` is the book after them and `messages` are those accepted since the last opening, oldest first. The plain rule reads these messages and nothing of the book.
+
+module _ (buffer : Bytes) (o : Opening) (accepted-opening : openNumber buffer o ≡ 0) (calls : List Call) where
+  open Desk (reached buffer o calls) using (book, messages)
+
+  holds : Invariant ((reached buffer o calls) .book) ((reached buffer o calls) .messages)
+  holds = invariant-run (begun buffer o) calls (invariant-opened buffer o accepted-opening)
+
+  -- the stored series are those of each sender's latest accepted message: under every sender e and pair p the book has a series exactly where that message has
+  -- one, with the same bytes but for sender's slot, mark and check, and so with the same quantities
+  pub stored-series-are-the-latest-messages : (e p : Bytes)
+      → Option·map content (find (isSeriesOfPair (slotOf (used book) e) p) (used book)) ≡ plainContent messages e p
+  stored-series-are-the-latest-messages = content-plain _ _ holds
+
+  pub stored-quantities-are-the-latest-messages : (e p : Bytes) → held (used book) e p ≡ plainHeld messages e p
+  stored-quantities-are-the-latest-messages = held-plain _ _ holds
+
+  -- the stored sender blocks are the first blocks of these messages, but for nets and check
+  pub stored-senders-are-the-latest-messages : (e : Bytes) → Option·map headContent (find (isSenderBlockOf e) (used book)) ≡ plainHeadContent messages e
+  stored-senders-are-the-latest-messages = holds .heads
+
+  -- every series x in a slot has a sender e
+  pub every-series-has-a-sender : (slot : ℕ) (x : Block) → nth (used book) slot ≡ some x → isSeries x ≡ true → (e : Bytes) × (slotOf (used book) e ≡ sendersSlot x)
+  every-series-has-a-sender = sender-named _ _ holds
+
+  -- the mark kept beside it is the plain rule's, the slot in it apart
+  pub marks-are-the-plain-rules : (slot : ℕ) (x : Block) → nth (used book) slot ≡ some x → isSeries x ≡ true → (e : Bytes) → slotOf (used book) e ≡ sendersSlot x
+      → mark x ≡ plainMark (nOf (dayBlock book)) messages e (pair x) (partner x)
+  marks-are-the-plain-rules = mark-plain _ _ holds
+
+  -- that slot holds the series which the plain rule found: the other party's, with the same pair and with the quantities q that it last sent
+  pub partners-are-the-plain-rules : (slot : ℕ) (x : Block) → nth (used book) slot ≡ some x → isSeries x ≡ true → (e : Bytes) → slotOf (used book) e ≡ sendersSlot x
+      → (q : Bytes) → plainHeld messages (otherParty e (pair x)) (pair x) ≡ some q
+      → (y : Block) × (nth (used book) (partner x) ≡ some y) × (slotOf (used book) (otherParty e (pair x)) ≡ sendersSlot y) × (pair y ≡ pair x) × (quantities y ≡ q)
+  partners-are-the-plain-rules = partner-plain _ _ holds
+
+  -- the nets kept for each sender, at all positions, are the plain rule's
+  pub nets-are-the-plain-rules : (e : Bytes) → Option·map nets (find (isSenderBlockOf e) (used book)) ≡ plainNets messages e
+  nets-are-the-plain-rules = holds .plain
+
+  -- ---- 3. Demand 3, finals: a final value v once given for a pair and a position p is given unchanged after any further calls, until the book is opened again
+
+  pub finals-stay : (further : List Call) → Unopened (reached buffer o calls) further → (seller buyer : Bytes) (p v : ℕ)
+      → final book seller buyer p ≡ finalGiven v → final ((run (reached buffer o calls) further) .book) seller buyer p ≡ finalGiven v
+  finals-stay further = final-stays (reached buffer o calls) further holds
+
+  -- ---- 4. The plain run says yes
+
+  pub plain-run-says-yes : plainRun book ≡ record { number = 0; holds = true }
+  plain-run-says-yes = says-yes _ _ holds
+
+-- ---- 5. Isolation: two sound books that agree in the day block, in the sender's own stored blocks and in the number of free slots give one answer to one message
+
+pub answers-are-isolated : (book other message : Bytes) → sound book ≡ true → sound other ≡ true → dayBlock book ≡ dayBlock other
+    → ownSender (used book) (sender (headOf message)) ≡ ownSender (used other) (sender (headOf message))
+    → ownSeries (used book) (sender (headOf message)) ≡ ownSeries (used other) (sender (headOf message))
+    → freeSlots book ≡ freeSlots other → verdict book message ≡ verdict other message
+answers-are-isolated = verdict-isolated
+
+-- ---- 6. Other senders' blocks: each keeps its slot and every byte but mark and check, and these too unless it is the counterpart of a series of the sender;
+-- the day block and everything behind the used slots stay
+
+pub others-keep-their-blocks : (book message : Bytes) → numberOf (verdict book message) ≡ 0 → (slot : ℕ) (x : Block) → nth (used book) slot ≡ some x
+    → isSenderBlockOf (sender (headOf message)) x ≡ false → isSeriesOf (slotOf (used book) (sender (headOf message))) x ≡ false
+    → (y : Block) × (nth (used (accepted book message)) slot ≡ some y) × ButMark x y
+    × (isCounterpartOf (used (accepted book message)) (sender (headOf message)) x ≡ false → y ≡ x)
+others-keep-their-blocks book message e = others-kept book message (accepts book message e)
+
+pub day-block-stays : (book message : Bytes) → numberOf (verdict book message) ≡ 0 → dayBlock (accepted book message) ≡ dayBlock book
+day-block-stays book message e = day-block-accepted book message (accepts book message e)
+
+pub free-slots-stay : (book message : Bytes) → numberOf (verdict book message) ≡ 0
+    → drop (512 + 512 * length (used (accepted book message))) (accepted book message) ≡ drop (512 + 512 * length (used (accepted book message))) book
+free-slots-stay book message e = rest-kept book message (accepts book message e)
+
+-- ---- 7. Determinacy: a promise of the form used here, answer and lent bytes each equal to a function of the inputs, allows one outcome
+
+pub promises-determine : {I A : Type 0} (answer : I → A) (bytes : I → Bytes) → Determines {I = I} {A = A} (λ i r x. (r ≡ answer i) × (x ≡ bytes i))
+promises-determine = determined
+
+-- ---- 8. The useless versions contradict these promises: see the crate `useless`

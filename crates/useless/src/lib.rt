@@ -1,0 +1,1 @@
+// There is no function here: the crate holds laws, in specs/.
