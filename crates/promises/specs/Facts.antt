@@ -1,4 +1,5 @@
 -- What soundness, a verdict of 0, an accepted clock move and an accepted opening say, as records: the only door from the tests to the theorems.
+-- A sound book's own record, Sound, stands in the facts.
 use mathlib.Core.Path.{_≡_, refl, sym, _∙_}
 use mathlib.Core.Bool.{Bool, true, false}
 use mathlib.Core.List.{List, [], _∷_, _++_}
@@ -27,6 +28,7 @@ use Rattle.paper.specs.Opening.{Opening, dayBlockOf, openingAllowed, openNumber
 use Rattle.paper.specs.Clock.{dayState, advanced, clockAnswer, clockMoved}
 use Rattle.facts.specs.Check.{sealed-length, sealed-right}
 use Rattle.facts.specs.Book.{series-not-sender, slots-length}
+pub use Rattle.facts.specs.Sound.{Sound, sound-says, is-sound, day-n, day-block-length, used-few, used-sender, used-series, used-other, used-kind}
 
 -- ---- verdicts
 
@@ -49,86 +51,6 @@ passed false number series position e = refl
 each-position : (at : ℕ → Verdict) → Passed (overPositions at) → (k : ℕ) → k < 100 → Passed (at k)
 unfolding overPositions
 each-position at e k h = along-all numberOf fine at 100 0 e k (omega arith) (omega arith)
-
--- ---- a sound book
-
-pub record Sound (book : Bytes) : Type 0 where
-  pub whole : length book % 512 ≡ 0
-  pub least : 2 ≤ length book / 512
-  pub most : length book / 512 ≤ 1001
-  pub checks : All (λ x. checkRight x ≡ true) (blocks book)
-  pub day : daySound (dayBlock book) ≡ true
-  pub free : All (λ x. isFree x ≡ true) (drop (length (used book)) (slots book))
-  pub each : All (λ x. usedSound (dayBlock book) (used book) x ≡ true) (used book)
-  pub senders : apart sameSender (used book) ≡ true
-  pub series : apart sameSeries (used book) ≡ true
-
-pub sound-says : (book : Bytes) → sound book ≡ true → Sound book
-unfolding sound wholeBlocks usedFirst
-sound-says book s =
-    let s1 = and-left _ _ s in
-    let s2 = and-left _ _ s1 in
-    let s3 = and-left _ _ s2 in
-    let s4 = and-left _ _ s3 in
-    let s5 = and-left _ _ s4 in
-    let s6 = and-left _ _ s5 in
-    record {
-      whole = is-yes _ _ (and-left _ _ (and-left _ _ s6));
-      least = upto-yes _ _ (and-right _ _ (and-left _ _ s6));
-      most = upto-yes _ _ (and-right _ _ s6);
-      checks = every-all _ _ (and-right _ _ s5);
-      day = and-right _ _ s4;
-      free = every-all _ _ (and-right _ _ s3);
-      each = every-all _ _ (and-right _ _ s2);
-      senders = and-right _ _ s1;
-      series = and-right _ _ s;
-    }
-
-pub is-sound : (book : Bytes) → Sound book → sound book ≡ true
-unfolding sound wholeBlocks usedFirst
-is-sound book s =
-    and-both _ _
-    (and-both _ _
-    (and-both _ _
-    (and-both _ _
-    (and-both _ _
-    (and-both _ _ (and-both _ _ (and-both _ _ (is-equal _ _ (s .whole)) (upto-true _ _ (s .least))) (upto-true _ _ (s .most))) (all-every _ _ (s .checks)))
-    (s .day)) (all-every _ _ (s .free))) (all-every _ _ (s .each))) (s .senders)) (s .series)
-
-n-small : (n : ℕ) → nAllowed n ≡ true → n ≤ 100
-unfolding nAllowed
-n-small n e =
-    split (is n 92) (λ t. omega (arith, is-yes n 92 t))
-    (λ t. split (is n 96) (λ s. omega (arith, is-yes n 96 s)) (λ s. omega (arith, is-yes n 100 (or-else _ _ e (or-no _ _ t s)))))
-
-pub day-n : (d : Block) → daySound d ≡ true → nOf d ≤ 100
-unfolding daySound dayFields
-day-n d e = n-small _ (and-right _ _ (and-left _ _ (and-left _ _ (and-left _ _ (and-left _ _ (and-left _ _ (and-left _ _ e)))))))
-
-pub day-block-length : (book : Bytes) → Sound book → length (dayBlock book) ≡ 512
-unfolding dayBlock
-day-block-length book s = let h : 2 ≤ length book / 512 = s .least in length-take-le 512 book (omega arith)
-
-pub used-few : (book : Bytes) → Sound book → length (used book) ≤ 1000
-unfolding used
-used-few book s = let h : length book / 512 ≤ 1001 = s .most in omega (arith, until-length isFree (slots book), slots-length book)
-
--- a used block is a sound sender or a sound series
-module _ (d : Block) (us : List Block) (x : Block) (q : usedSound d us x ≡ true) where
-  pub used-sender : isSender x ≡ true → senderSound d us x ≡ true
-  unfolding usedSound
-  used-sender t = rw t at q
-
-  pub used-series : isSeries x ≡ true → seriesSound d us x ≡ true
-  unfolding usedSound
-  used-series t = and-right _ _ (rw (series-not-sender x t) at q)
-
-  pub used-other : isSender x ≡ false → isSeries x ≡ true
-  unfolding usedSound
-  used-other t = and-left _ _ (rw t at q)
-
-  pub used-kind : (isSender x or isSeries x) ≡ true
-  used-kind = split (isSender x) (λ t. or-yes-left _ _ t) (λ t. or-yes-right _ _ (used-other t))
 
 -- ---- a message that rule 2 lets through
 

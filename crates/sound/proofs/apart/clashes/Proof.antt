@@ -1,0 +1,13 @@
+-- The tests are the definition's.
+use Rattle.laws.specs.Kit.{needs}
+use Rattle.laws.specs.Tests.{_or_}
+use Rattle.sound.specs.Used.{clashes}
+use Rattle.sound.proofs.apart.clashes.Statement.{statement}
+use Rattle.sound.proofs.apart.clashes.Tie as tie
+
+returns : tie.Need-returns
+unfolding clashes _or_
+returns c = cc
+
+pub clashes-spec : {M : Type 1} → statement M
+clashes-spec = tie.close (tie.spec (λ c κs. search needs) (λ c κs. search needs) returns)

@@ -1,0 +1,15 @@
+-- The tests are the definition's.
+use Rattle.laws.specs.Kit.{needs}
+use Rattle.laws.specs.Tests.{_and_, _or_, is}
+use Rattle.paper.specs.Sound.{sameSeries}
+use Rattle.sound.proofs.apart.same_series.Statement.{statement}
+use Rattle.sound.proofs.apart.same_series.Tie as tie
+
+returns : tie.Need-returns
+unfolding sameSeries _and_ _or_ is
+returns c = cc
+
+pub same-series-spec : {M : Type 1} → statement M
+same-series-spec =
+    tie.close
+    (tie.spec (λ c κs. search needs) (λ c κs. search needs) (λ c κs. search needs) (λ c κs. search needs) (λ c κs. search needs) (λ c κs. search needs) (λ c κs. search needs) (λ c κs. search needs) (λ c κs. search needs) (λ c κs. search needs) returns)

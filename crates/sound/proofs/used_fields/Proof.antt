@@ -1,0 +1,23 @@
+-- A sender and another block are judged as the definition has it.
+use Rattle.laws.specs.Kit.{needs, sym, _∙_}
+use Rattle.laws.specs.Tests.{_and_}
+use Rattle.sound.specs.Used.{usedFields}
+use Rattle.sound.proofs.used_fields.Statement.{statement}
+use Rattle.sound.proofs.used_fields.Tie as tie
+
+returns : tie.Need-returns
+unfolding usedFields _and_
+returns c =
+    let t = c .before .before in
+    rw (sym (t .before .is-sender .ensures) ∙ t .if1 .taken) (cc)
+
+returns-2 : tie.Need-returns-2
+unfolding usedFields _and_
+returns-2 c =
+    let t = c .before .before in
+    rw (sym (t .before .is-sender .ensures) ∙ t .if1 .left) (cc)
+
+pub used-fields-spec : {M : Type 1} → statement M
+used-fields-spec =
+    tie.close
+    (tie.spec (λ c κs. search needs) (λ c κs. search needs) (λ c κs. search needs) returns (λ c κs. search needs) (λ c κs. search needs) returns-2)

@@ -1,0 +1,38 @@
+// The day block: "as above with valid EICs".
+ghost use mathlib.Core.Path.{_≡_};
+ghost use Rattle.paper.specs.Sound.{dayFields, daySound};
+ghost use Rattle.eic.specs.Table.{IsTable};
+use super::ranges::clock_allowed;
+use super::ranges::lead_allowed;
+use super::ranges::n_allowed;
+use eic::eic_valid_with;
+use field::day_well_formed;
+use layout::area;
+use layout::clock;
+use layout::day_of_book;
+use layout::day_zeros;
+use layout::kind;
+use layout::lead;
+use layout::n_of;
+use layout::receiver;
+
+fn day_fields(d: &[u8]) -> bool
+    ensures { λ r. ⌜ r ≡ dayFields (now (d .entry)) ⌝ }
+{
+    (kind(d) == 3)
+        & n_allowed(n_of(d))
+        & lead_allowed(lead(d))
+        & clock_allowed(clock(d))
+        & day_well_formed(day_of_book(d))
+}
+
+// An opening asks the same of the block that it is about to write.
+pub fn day_sound(table: &[u8; 256], d: &[u8]) -> bool
+    requires { ⌜ IsTable (now table) ⌝ }
+    ensures { λ r. ⌜ r ≡ daySound (now (d .entry)) ⌝ }
+{
+    day_fields(d)
+        & eic_valid_with(table, area(d))
+        & eic_valid_with(table, receiver(d))
+        & day_zeros(d)
+}

@@ -1,0 +1,100 @@
+// A sound book: document 01's paragraph, clause by clause.
+ghost use mathlib.Core.Path.{_≡_};
+ghost use Prim.Native.Nat.{_≤_, _%_};
+ghost use lib.ListN.{length};
+ghost use Rattle.laws.specs.Lists.{every};
+ghost use Rattle.laws.specs.Cut.{cut};
+ghost use Rattle.paper.specs.Layout.{nOf};
+ghost use Rattle.paper.specs.Sound.{sound};
+ghost use Rattle.eic.specs.Table.{IsTable};
+ghost use Rattle.sound.specs.Used.{usedFields, eachUsed, slotsSound};
+
+mod apart;
+mod counts;
+pub mod day;
+pub mod ranges;
+mod sender;
+pub mod series;
+
+use apart::blocks_apart;
+use block::check::checks_right;
+use counts::counts_right;
+use day::day_sound;
+use eic::values;
+use field::all_zero;
+use field::part_of;
+use ranges::whole_blocks;
+use sender::sender_day;
+use sender::sender_fields;
+use series::series_sound;
+use slots::block_at;
+use slots::is_sender;
+use slots::is_series;
+use slots::used_count;
+
+fn used_fields(table: &[u8; 256], d: &[u8], us: &[u8], b: &[u8]) -> bool
+    requires { ⌜ IsTable (now table) × (nOf (now d) ≤ 100) ⌝ }
+    ensures { λ r. ⌜ r ≡ usedFields (now (d .entry)) (cut 512 (now (us .entry))) (now (b .entry)) ⌝ }
+{
+    if is_sender(b) {
+        return sender_fields(table, d, b) & sender_day(d, b);
+    }
+    is_series(b) & series_sound(table, d, us, b)
+}
+
+fn all_fields(table: &[u8; 256], d: &[u8], us: &[u8]) -> bool
+    requires { ⌜ IsTable (now table) × (nOf (now d) ≤ 100) ⌝ }
+    ensures { λ r. ⌜ r ≡ every (usedFields (now (d .entry)) (cut 512 (now (us .entry)))) (cut 512 (now (us .entry))) ⌝ }
+{
+    let many = us.len() / 512;
+    let mut ok = true;
+    let mut i = 0;
+    while i < many {
+        ok = ok & used_fields(table, d, us, block_at(us, i));
+        i += 1;
+    }
+    ok
+}
+
+// The counts come last: where no two senders share an EIC, a sender's slot is known without a search.
+fn each_used(table: &[u8; 256], d: &[u8], us: &[u8]) -> bool
+    requires { ⌜ IsTable (now table) × (nOf (now d) ≤ 100) ⌝ }
+    ensures { λ r. ⌜ r ≡ eachUsed (now (d .entry)) (cut 512 (now (us .entry))) ⌝ }
+{
+    if !all_fields(table, d, us) {
+        return false;
+    }
+    if !blocks_apart(us) {
+        return false;
+    }
+    counts_right(us)
+}
+
+// "Used slots first, free ones after": behind the used slots all bytes are 0.
+fn slots_sound(table: &[u8; 256], d: &[u8], s: &[u8]) -> bool
+    requires { ⌜ IsTable (now table) × (nOf (now d) ≤ 100) × (length (now s) % 512 ≡ 0) ⌝ }
+    ensures { λ r. ⌜ r ≡ slotsSound (now (d .entry)) (cut 512 (now (s .entry))) ⌝ }
+{
+    let end = 512 * used_count(s);
+    if !all_zero(&s[end..]) {
+        return false;
+    }
+    each_used(table, d, &s[..end])
+}
+
+pub fn sound(book: &[u8]) -> bool
+    ensures { λ r. ⌜ r ≡ sound (now (book .entry)) ⌝ }
+{
+    if !whole_blocks(2, 1001, book) {
+        return false;
+    }
+    if !checks_right(book) {
+        return false;
+    }
+    let table = values();
+    let d = part_of(book, 0, 512);
+    if !day_sound(&table, d) {
+        return false;
+    }
+    slots_sound(&table, d, &book[512..])
+}

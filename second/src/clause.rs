@@ -1,0 +1,36 @@
+//! Lists of single clauses.
+//!
+//! A rule of the paper is often several conditions joined by "or". For the histogram each of
+//! them is told apart, so every list of clauses is an enum whose order is the order in which the
+//! paper names them. A set of broken clauses is a 64-bit number; its lowest bit is the first
+//! broken clause.
+
+macro_rules! clauses {
+    ($(#[$note:meta])* $name:ident { $($variant:ident $text:literal,)* }) => {
+        $(#[$note])*
+        #[derive(Clone, Copy, Debug, PartialEq, Eq)]
+        pub enum $name { $($variant),* }
+
+        impl $name {
+            /// Every clause, in the paper's order.
+            pub const ALL: &'static [$name] = &[$($name::$variant),*];
+
+            /// A few words for the histogram.
+            pub fn text(self) -> &'static str {
+                match self { $($name::$variant => $text),* }
+            }
+
+            /// The clause's place in a set of clauses.
+            pub fn bit(self) -> u64 {
+                1 << (self as u32)
+            }
+
+            /// The first clause of a set, in the paper's order.
+            pub fn first(set: u64) -> Option<$name> {
+                if set == 0 { None } else { Some(Self::ALL[set.trailing_zeros() as usize]) }
+            }
+        }
+    };
+}
+
+pub(crate) use clauses;

@@ -1,0 +1,414 @@
+//! The worked examples of the paper: both sides of each edge, and the listing from its opening
+//! to its lines. The self-check runs them, and so do the unit tests.
+
+use std::fmt::Debug;
+
+use crate::block::*;
+use crate::codes::reason_code;
+use crate::counts::{Minute, Position, Slot, DAY_START};
+use crate::day::{move_clock, open, DayState};
+use crate::identifier::{is_valid_eic, VALUES as CHARACTER_VALUES};
+use crate::listing::listing;
+use crate::message::{series_of_message, SeriesReader};
+use crate::plain_rule;
+use crate::quantity_text;
+use crate::readings::{accepted_block, final_value, mark_of, plain_run};
+use crate::sound::{is_sound, MOST_BLOCKS};
+use crate::submission::{submit, Verdict};
+
+pub type Outcome = Result<(), String>;
+
+/// An example and its name.
+pub type Example = (&'static str, fn() -> Outcome);
+
+pub const EXAMPLES: &[Example] = &[
+    ("EICs", eics),
+    ("quantity text", texts),
+    ("open and closed positions", edges_of_closing),
+    ("the check of a block", checks),
+    ("lengths of a book", lengths),
+    ("message versions", message_versions),
+    ("a message with nothing changed", nothing_changed),
+    ("a new series at a closed position", late_new_series),
+    ("absent series and full books", absent_and_full),
+    ("series versions", series_versions),
+    ("the clock and the day's state", clock_states),
+    ("finals", finals),
+    ("the reader", reader),
+    ("the table of codes", codes),
+    ("the listing", printed_listing),
+];
+
+fn same<T: PartialEq + Debug>(what: &str, found: T, expected: T) -> Outcome {
+    if found == expected {
+        Ok(())
+    } else {
+        Err(format!("{what}: found {found:?}, expected {expected:?}"))
+    }
+}
+
+const AREA_CODE: &[u8; 16] = b"10YAT-APG------L";
+const RECEIVER_CODE: &[u8; 16] = b"14XAT-APCS-----Q";
+const SELLER: &[u8; 16] = b"14XBILANZGR-1--F";
+const BUYER: &[u8; 16] = b"14XBG-EMPFANG--0";
+const DAY_TEXT: &[u8; 8] = b"20190131";
+
+fn name(text: &str) -> Field {
+    let mut id = [0; 16];
+    id[..text.len()].copy_from_slice(text.as_bytes());
+    id
+}
+
+/// A series as a message carries it, the same quantity at every position.
+fn series(id: &str, in_party: &Field, out_party: &Field, version: u16, n: u8, value: u32) -> Block {
+    let mut block = [0; BLOCK_BYTES];
+    block[KIND] = KIND_SERIES;
+    block[N] = n;
+    put_u16(&mut block, VERSION, version);
+    block[BUSINESS_TYPE] = INTERNAL_TRADE;
+    put_field(&mut block, ID, &name(id));
+    put_field(&mut block, IN_AREA, AREA_CODE);
+    put_field(&mut block, OUT_AREA, AREA_CODE);
+    put_field(&mut block, IN_PARTY, in_party);
+    put_field(&mut block, OUT_PARTY, out_party);
+    for position in (1..=u16::from(n)).map(Position) {
+        put_quantity(&mut block, position, value);
+    }
+    block
+}
+
+fn message(sender: &Field, version: u16, n: u8, list: &[Block]) -> Vec<u8> {
+    let mut head = [0; BLOCK_BYTES];
+    head[KIND] = KIND_SENDER;
+    head[N] = n;
+    put_u16(&mut head, VERSION, version);
+    put_u16(&mut head, COUNT, list.len() as u16);
+    put_field(&mut head, ID, &name("MESSAGE-1"));
+    put_field(&mut head, SENDER, sender);
+    put_field(&mut head, RECEIVER, RECEIVER_CODE);
+    head[DAY_IN_SENDER..DAY_IN_SENDER + DAY_DIGITS].copy_from_slice(DAY_TEXT);
+    let mut bytes = Vec::new();
+    for mut block in [&[head], list].concat() {
+        seal(&mut block);
+        bytes.extend(block);
+    }
+    bytes
+}
+
+fn opened(blocks: usize, n: u8, lead: u16) -> Vec<u8> {
+    let mut book = vec![0xAA; blocks * BLOCK_BYTES];
+    assert_eq!(open(&mut book, n, lead, DAY_TEXT, AREA_CODE, RECEIVER_CODE), 0);
+    book
+}
+
+/// Number, code, series number and position.
+fn answer(verdict: Verdict) -> (u8, u8, u16, u16) {
+    (verdict.number(), verdict.code(), verdict.series, verdict.position.0)
+}
+
+const ACCEPTED: (u8, u8, u16, u16) = (0, 1, 0, 0);
+
+fn eics() -> Outcome {
+    let sums: [(&[u8; 16], u32); 6] = [
+        (b"10XAT-APG------Z", 2_777),
+        (AREA_CODE, 2_791),
+        (RECEIVER_CODE, 2_749),
+        (BUYER, 2_331),
+        (SELLER, 2_353),
+        (b"13XBILANZGR-2--Q", 2_342),
+    ];
+    for (code, expected) in sums {
+        let text = String::from_utf8_lossy(code);
+        let sum: u32 = code[..15]
+            .iter()
+            .zip((2..=16).rev())
+            .map(|(&c, weight)| weight * u32::from(CHARACTER_VALUES[usize::from(c)]))
+            .sum();
+        same(&format!("sum of {text}"), sum, expected)?;
+        same(&format!("validity of {text}"), is_valid_eic(code), true)?;
+    }
+    same("Y for Z", is_valid_eic(b"10XAT-APG------Y"), false)?;
+    same("fifteen zeros", (0..=255).any(|last| is_valid_eic(&[&[b'0'; 15][..], &[last]].concat())), false)
+}
+
+fn texts() -> Outcome {
+    let read: [(&str, (u8, u32)); 26] = [
+        ("0.194", (0, 194)),
+        ("9999.999", (0, 9_999_999)),
+        ("10000", (30, 0)),
+        (".5", (30, 0)),
+        ("1.", (30, 0)),
+        ("", (30, 0)),
+        ("-0", (31, 0)),
+        ("60.0", (0, 60_000)),
+        ("-", (30, 0)),
+        ("-10000", (30, 0)),
+        ("-.5", (30, 0)),
+        ("-1.", (30, 0)),
+        ("--5", (30, 0)),
+        ("+5", (30, 0)),
+        (" 5", (30, 0)),
+        ("-9999.999", (31, 0)),
+        ("0000", (0, 0)),
+        ("0007.5", (0, 7_500)),
+        ("7.05", (0, 7_050)),
+        ("7.005", (0, 7_005)),
+        ("7.0005", (30, 0)),
+        ("1.2.3", (30, 0)),
+        ("5 ", (30, 0)),
+        ("1..2", (30, 0)),
+        ("1,5", (30, 0)),
+        (".", (30, 0)),
+    ];
+    for (text, expected) in read {
+        same(&format!("reading {text:?}"), quantity_text::read(text.as_bytes()), expected)?;
+    }
+    let mut buffer = *b"xxxxxxxxx";
+    same("printing 60,000", quantity_text::print(60_000, &mut buffer), (0, 6))?;
+    same("bytes behind the text", buffer, *b"60.000xxx")?;
+    same("printing 194", quantity_text::print(194, &mut buffer), (0, 5))?;
+    same("the text of 194", buffer, *b"0.1940xxx")?;
+    same("printing the highest", quantity_text::print(9_999_999, &mut buffer), (0, 8))?;
+    same("the highest text", buffer, *b"9999.999x")?;
+    same("above the highest", quantity_text::print(10_000_000, &mut buffer[..1]), (30, 0))?;
+    same("a short buffer", quantity_text::print(0, &mut buffer[..4]), (32, 0))?;
+    same("a buffer just long enough", quantity_text::print(0, &mut buffer[..5]), (0, 5))?;
+    same("the text of 0", buffer, *b"0.000999x")
+}
+
+fn edges_of_closing() -> Outcome {
+    let minute = |clock: u16| Minute(DAY_START + clock);
+    same("position 5, lead 45, clock 15", Position(5).is_open(minute(15), 45), true)?;
+    same("position 5, lead 45, clock 16", Position(5).is_open(minute(16), 45), false)?;
+    same("position 1, lead 0, clock 0", Position(1).is_open(minute(0), 0), true)?;
+    same("position 1, lead 0, clock 1", Position(1).is_open(minute(1), 0), false)
+}
+
+fn checks() -> Outcome {
+    let with = |at: usize, value: u8| {
+        let mut block = [0; BLOCK_BYTES];
+        block[at] = value;
+        check_of(&block)
+    };
+    same("byte 505", with(505, 1), 961)?;
+    same("byte 506", with(506, 1), 31)?;
+    same("byte 507", with(507, 1), 1)?;
+    same("the collision", with(506, 1), with(507, 31))?;
+    let mut block = [0; BLOCK_BYTES];
+    block[505] = 1;
+    seal(&mut block);
+    same("a seal", &block[CHECK..], &[193, 3, 0, 0][..])?;
+    same("a sealed block", check_is_right(&block), true)?;
+    same("a free block", check_is_right(&[0; BLOCK_BYTES]), true)
+}
+
+fn lengths() -> Outcome {
+    for (blocks, expected) in [(0, 20), (1, 20), (2, 0), (MOST_BLOCKS, 0), (MOST_BLOCKS + 1, 20)] {
+        let mut book = vec![7; blocks * BLOCK_BYTES];
+        let number = open(&mut book, 96, 0, DAY_TEXT, AREA_CODE, RECEIVER_CODE);
+        same(&format!("opening {blocks} blocks"), number, expected)?;
+        same("soundness afterwards", is_sound(&book), expected == 0)?;
+    }
+    let mut book = opened(MOST_BLOCKS, 96, 0);
+    book.extend([0; BLOCK_BYTES]);
+    same("a book of 1,002 blocks", is_sound(&book), false)?;
+    for (n, lead, expected) in [(96, 1_440, 0), (96, 1_441, 21), (95, 0, 21), (92, 0, 0), (100, 0, 0)] {
+        let number = open(&mut book[..1_024], n, lead, DAY_TEXT, AREA_CODE, RECEIVER_CODE);
+        same(&format!("opening with n {n} and lead {lead}"), number, expected)?;
+    }
+    Ok(())
+}
+
+/// A book in which the seller has filed 45,000 throughout and changed it once: version 2.
+fn book_at_version_2(lead: u16) -> Result<Vec<u8>, String> {
+    let mut book = opened(10, 96, lead);
+    for version in 1..=2u16 {
+        let value = 44_000 + 500 * u32::from(version);
+        let list = [series("TS0001", BUYER, SELLER, version, 96, value)];
+        same("filing", answer(submit(&mut book, &message(SELLER, version, 96, &list))), ACCEPTED)?;
+    }
+    Ok(book)
+}
+
+fn message_versions() -> Outcome {
+    let book = book_at_version_2(45)?;
+    for (version, expected) in [(3, ACCEPTED), (2, (6, 51, 0, 0)), (4, (6, 51, 0, 0))] {
+        let mut copy = book.clone();
+        let list = [series("TS0001", BUYER, SELLER, version, 96, 50_000)];
+        let verdict = submit(&mut copy, &message(SELLER, version, 96, &list));
+        same(&format!("version {version}"), answer(verdict), expected)?;
+        same("whether the book changed", copy == book, expected != ACCEPTED)?;
+    }
+    Ok(())
+}
+
+fn nothing_changed() -> Outcome {
+    let mut book = book_at_version_2(45)?;
+    let list = [series("TS0001", BUYER, SELLER, 2, 96, 45_000)];
+    same("nothing changed", answer(submit(&mut book, &message(SELLER, 3, 96, &list))), ACCEPTED)?;
+    same("the message version", u16_at(block_at(&book, 1), VERSION), 3)?;
+    let (number, block) = accepted_block(&book, SELLER, &name("TS0001"));
+    same("reading the block", number, 0)?;
+    same("the series version", u16_at(block_at(block, 0), VERSION), 2)
+}
+
+fn late_new_series() -> Outcome {
+    let mut book = book_at_version_2(45)?;
+    same("clock", move_clock(&mut book, Minute(DAY_START + 16)).0, 0)?;
+    let stored = series("TS0001", BUYER, SELLER, 2, 96, 45_000);
+    let mut late = series("TS0002", SELLER, BUYER, 3, 96, 0);
+    put_quantity(&mut late, Position(5), 5);
+    let before = book.clone();
+    same("5 kW where closed", answer(submit(&mut book, &message(SELLER, 3, 96, &[stored, late]))), (14, 57, 2, 5))?;
+    same("the book", book == before, true)?;
+    put_quantity(&mut late, Position(5), 0);
+    put_quantity(&mut late, Position(6), 5);
+    same("0 where closed", answer(submit(&mut book, &message(SELLER, 3, 96, &[stored, late]))), ACCEPTED)
+}
+
+fn absent_and_full() -> Outcome {
+    let mut book = opened(3, 96, 0);
+    let first = series("A", BUYER, SELLER, 1, 96, 1);
+    let second = series("B", SELLER, BUYER, 1, 96, 1);
+    let before = book.clone();
+    same(
+        "three blocks for two slots",
+        answer(submit(&mut book, &message(SELLER, 1, 96, &[first, second]))),
+        (17, 0, 0, 0),
+    )?;
+    same("the book", book == before, true)?;
+    same("two blocks for two slots", answer(submit(&mut book, &message(SELLER, 1, 96, &[first]))), ACCEPTED)?;
+    let other = series("B", SELLER, BUYER, 2, 96, 1);
+    same("absent", answer(submit(&mut book, &message(SELLER, 2, 96, &[other]))), (16, 52, 0, 0))?;
+    let twin = series("A", BUYER, SELLER, 2, 96, 2);
+    same("a change needs no slot", answer(submit(&mut book, &message(SELLER, 2, 96, &[twin]))), ACCEPTED)
+}
+
+fn series_versions() -> Outcome {
+    let book = book_at_version_2(0)?;
+    // The stored series has version 2 and 45,000 kW; the message has version 3.
+    for (version, value, expected) in
+        [(2, 45_000, ACCEPTED), (3, 45_000, (15, 50, 1, 0)), (3, 46_000, ACCEPTED), (2, 46_000, (15, 50, 1, 0))]
+    {
+        let list = [series("TS0001", BUYER, SELLER, version, 96, value)];
+        let verdict = submit(&mut book.clone(), &message(SELLER, 3, 96, &list));
+        same(&format!("series version {version} with {value}"), answer(verdict), expected)?;
+    }
+    Ok(())
+}
+
+fn clock_states() -> Outcome {
+    let mut book = opened(2, 92, 45);
+    let state = |clock: u16| DayState { n: 92, lead: 45, clock: Minute(clock) };
+    same("the earliest minute", move_clock(&mut book, Minute(0)), (0, state(0)))?;
+    same("forward", move_clock(&mut book, Minute(10_000)), (0, state(10_000)))?;
+    same("back", move_clock(&mut book, Minute(9_999)), (22, state(10_000)))?;
+    same("equal", move_clock(&mut book, Minute(10_000)), (0, state(10_000)))?;
+    same("too late", move_clock(&mut book, Minute(11_581)), (22, state(10_000)))?;
+    same("the latest", move_clock(&mut book, Minute(11_580)), (0, state(11_580)))?;
+    book[0] = 0;
+    let zeros = DayState { n: 0, lead: 0, clock: Minute(0) };
+    same("not sound", move_clock(&mut book, Minute(11_580)), (1, zeros))
+}
+
+fn finals() -> Outcome {
+    let mut book = opened(10, 96, 45);
+    let sold = series("S", BUYER, SELLER, 1, 96, 45_000);
+    let bought = series("B", BUYER, SELLER, 1, 96, 44_000);
+    same("the buyer files", answer(submit(&mut book, &message(BUYER, 1, 96, &[bought]))), ACCEPTED)?;
+    let read = |book: &[u8], p: u16| final_value(book, SELLER, BUYER, Position(p));
+    same("position 0", read(&book, 0), (24, 0))?;
+    same("position 97", read(&book, 97), (24, 0))?;
+    same("not closed", read(&book, 5), (25, 0))?;
+    let mut unanswered = book.clone();
+    same("clock", move_clock(&mut unanswered, Minute(DAY_START + 16)).0, 0)?;
+    same("only the buyer filed", read(&unanswered, 5), (0, 0))?;
+    same("the other direction", final_value(&unanswered, BUYER, SELLER, Position(5)), (26, 0))?;
+    same("equal parties", final_value(&unanswered, BUYER, BUYER, Position(5)), (26, 0))?;
+    same("the seller files", answer(submit(&mut book, &message(SELLER, 1, 96, &[sold]))), ACCEPTED)?;
+    same("clock", move_clock(&mut book, Minute(DAY_START + 16)).0, 0)?;
+    same("closed", read(&book, 5), (0, 45_000))?;
+    same("still open", read(&book, 6), (25, 0))?;
+    same("not sound", read(&book[..100], 0), (1, 0))
+}
+
+fn reader() -> Outcome {
+    let first = series("A", BUYER, SELLER, 1, 96, 1);
+    let second = series("B", SELLER, BUYER, 1, 96, 1);
+    let mut bytes = message(SELLER, 1, 96, &[first, second]);
+    same("series 0", series_of_message(&bytes, 0).len(), 0)?;
+    same("series 1", series_of_message(&bytes, 1) == &bytes[512..1_024], true)?;
+    same("series 2", series_of_message(&bytes, 2) == &bytes[1_024..], true)?;
+    same("series 3", series_of_message(&bytes, 3).len(), 0)?;
+    let mut walk = SeriesReader::over(&bytes);
+    let lengths: Vec<usize> = (0..4).map(|_| walk.next_series().len()).collect();
+    same("a walk", lengths, vec![512, 512, 0, 0])?;
+    bytes[100] = 1;
+    same("a wrong check", series_of_message(&bytes, 1).len(), 0)?;
+    same("a walk over nothing", SeriesReader::over(&bytes).next_series().len(), 0)
+}
+
+fn codes() -> Outcome {
+    let table = [0, 0, 53, 78, 4, 51, 55, 22, 23, 62, 46, 42, 49, 57, 50, 52, 0];
+    for (number, code) in (1..=17).zip(table) {
+        same(&format!("code of {number}"), reason_code(number), code)?;
+    }
+    same("acceptance", reason_code(0), 1)?;
+    same("no quantity", reason_code(30), 42)?;
+    same("negative", reason_code(31), 46)?;
+    same("others", [18, 20, 21, 22, 23, 24, 25, 26, 32, 33, 255].iter().all(|&number| reason_code(number) == 0), true)
+}
+
+fn printed_listing() -> Outcome {
+    let mut book = opened(8, 96, 45);
+    let header = "slot sender series in out state first partner\n";
+    same("an empty book", String::from_utf8_lossy(&listing(&book)).as_ref(), header)?;
+    let sold = message(SELLER, 1, 96, &[series("TS0001", BUYER, SELLER, 1, 96, 45_000)]);
+    same("the seller files", answer(submit(&mut book, &sold)), ACCEPTED)?;
+    let unmatched = Mark { state: 1, first: Position(0), partner: Slot(0) };
+    same("unmatched", mark_of(&book, SELLER, &name("TS0001")), (0, unmatched))?;
+    let mut block = series("FPL01", BUYER, SELLER, 1, 96, 45_000);
+    put_quantity(&mut block, Position(2), 44_000);
+    let bought = message(BUYER, 1, 96, &[block]);
+    same("the buyer files", answer(submit(&mut book, &bought)), ACCEPTED)?;
+    let text = listing(&book);
+    let expected = format!(
+        "{header}2 14XBILANZGR-1--F TS0001 14XBG-EMPFANG--0 14XBILANZGR-1--F 3 2 4\n\
+         4 14XBG-EMPFANG--0 FPL01 14XBG-EMPFANG--0 14XBILANZGR-1--F 3 2 2\n"
+    );
+    same("the lines", String::from_utf8_lossy(&text).as_ref(), expected.as_str())?;
+    same("the plain run", plain_run(&book), (0, true))?;
+    same(
+        "the seller's net",
+        nets(block_at(&book, 1)).take(97).collect::<Vec<_>>(),
+        [vec![-45_000; 96], vec![0]].concat(),
+    )?;
+    same("the buyer's net at 2", nets(block_at(&book, 3)).nth(1), Some(44_000))?;
+    let found = plain_rule::matching(&[sold, bought]);
+    let mark = found.marks[&(*SELLER, name("TS0001"))];
+    same("the plain rule", (mark.state, mark.first, mark.partner), (3, Position(2), Some((*BUYER, name("FPL01")))))?;
+    same("the plain net", found.nets[BUYER][1], 44_000)?;
+
+    // The lengths the listing takes, and a book that is not sound.
+    let mut long = opened(64, 96, 45);
+    same("64 blocks", String::from_utf8_lossy(&listing(&long)).as_ref(), header)?;
+    long.push(0);
+    same("a byte more", listing(&long), b"too long\n".to_vec())?;
+    book[9] ^= 1;
+    same("a changed byte", listing(&book), b"not sound\n".to_vec())?;
+    same("the plain run on it", plain_run(&book), (1, false))
+}
+
+#[cfg(test)]
+mod tests {
+    use super::EXAMPLES;
+
+    #[test]
+    fn every_worked_example_holds() {
+        for (name, example) in EXAMPLES {
+            if let Err(failure) = example() {
+                panic!("{name}: {failure}");
+            }
+        }
+    }
+}

@@ -1,0 +1,32 @@
+//! A second program for the Tetherbay day book, written from the paper alone so that its answers
+//! can be compared with those of the proved program.
+//!
+//! The first group of modules is the paper: blocks, EICs and ids, quantity text, sound books,
+//! opening and clock, messages, submission, readings, listing. `plain_rule` is the matching rule
+//! for checking. The rest makes random calls, replays them and counts what decided.
+
+pub mod block;
+pub mod book;
+mod clause;
+pub mod codes;
+pub mod counts;
+pub mod day;
+pub mod identifier;
+pub mod listing;
+pub mod message;
+pub mod plain_rule;
+pub mod quantity_text;
+pub mod readings;
+pub mod sound;
+pub mod submission;
+
+pub mod crafted;
+pub mod desk;
+pub mod draft;
+pub mod examples;
+pub mod generator;
+pub mod histogram;
+pub mod names;
+pub mod random;
+pub mod selfcheck;
+pub mod stream;

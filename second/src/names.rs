@@ -1,0 +1,111 @@
+//! Random names, quantities and days for the generator.
+
+use crate::block::{Field, HIGHEST_QUANTITY, POSITIONS};
+use crate::identifier::{check_value, is_valid_eic};
+use crate::random::Random;
+
+const ALPHABET: &[u8] = b"0123456789ABCDEFGHIJKLMNOPQRSTUVWXYZ-";
+
+/// A valid EIC.
+pub fn valid_eic(random: &mut Random) -> Field {
+    loop {
+        let mut code = [0; 16];
+        for character in code.iter_mut() {
+            *character = random.pick(ALPHABET);
+        }
+        let first_fifteen = code[..15].try_into().expect("fifteen characters");
+        if let Some(value) = check_value(first_fifteen).filter(|&value| value < 36) {
+            code[15] = ALPHABET[usize::from(value)];
+            return code;
+        }
+    }
+}
+
+/// A field that is close to an EIC but is none.
+pub fn invalid_eic(random: &mut Random) -> Field {
+    loop {
+        let mut code = valid_eic(random);
+        match random.below(6) {
+            0 => code[15] = b'-',
+            1 => code = [b'0'; 16],
+            2 => code[random.below(16)] = random.byte(),
+            3 => code[random.below(16)] = b'x',
+            4 => code = [0; 16],
+            _ => code[random.below(16)] = random.pick(ALPHABET),
+        }
+        if !is_valid_eic(&code) {
+            return code;
+        }
+    }
+}
+
+/// A well-formed id of random length.
+pub fn id(random: &mut Random) -> Field {
+    let mut id = [0; 16];
+    let length = if random.percent(10) { 16 } else { random.between(1, 16) };
+    for character in id.iter_mut().take(length) {
+        *character = random.pick(ALPHABET);
+    }
+    id
+}
+
+/// A field that no id can be.
+pub fn malformed_id(random: &mut Random) -> Field {
+    let mut id = id(random);
+    match random.below(5) {
+        0 => id = [0; 16],
+        1 => id[0] = 0,
+        2 => id[random.below(16)] = random.pick(b"a_ .\xff@[/:"),
+        3 => {
+            // A zero byte with text behind it.
+            let gap = random.between(1, 14);
+            id[gap] = 0;
+            id[random.between(gap + 1, 15)] = b'7';
+        }
+        _ => id[random.below(16)] = b'a',
+    }
+    if id[0] != 0 && crate::identifier::is_well_formed_id(&id) {
+        id[0] = b'a';
+    }
+    if crate::identifier::is_well_formed_id(&id) {
+        id = [0; 16];
+    }
+    id
+}
+
+pub fn day(random: &mut Random) -> [u8; 8] {
+    let mut day = *b"20190131";
+    if random.percent(70) {
+        for digit in day.iter_mut() {
+            *digit = b'0' + random.below(10) as u8;
+        }
+    }
+    day
+}
+
+/// A quantity, often at an edge.
+pub fn quantity(random: &mut Random) -> u32 {
+    match random.below(6) {
+        0 => 0,
+        1 => HIGHEST_QUANTITY,
+        2 => 1_000 * random.below(100) as u32,
+        3 => random.below(10) as u32,
+        _ => random.below(HIGHEST_QUANTITY as usize + 1) as u32,
+    }
+}
+
+/// Quantities for the first n positions, zeros above.
+pub fn profile(random: &mut Random, n: usize) -> [u32; POSITIONS] {
+    let mut values = [0; POSITIONS];
+    match random.below(5) {
+        0 => values[..n].fill(45_000),
+        1 => values[..n].fill(quantity(random)),
+        2 => values[..n].iter_mut().for_each(|value| *value = quantity(random)),
+        3 => {
+            let (from, to) = (random.below(n), random.below(n));
+            values[from.min(to)..=from.max(to)].fill(quantity(random));
+        }
+        _ => values[..n].fill(HIGHEST_QUANTITY),
+    }
+    values
+}

@@ -1,0 +1,94 @@
+//! The plain matching rule over the list of accepted messages. It never sees a book, so what the
+//! book keeps can be held against it.
+
+use std::collections::HashMap;
+
+use crate::block::*;
+use crate::counts::Position;
+
+/// A series named by its sender and its id.
+pub type SeriesName = (Field, Field);
+
+/// A mark whose partner is named as a series, not by a slot: slots are the book's affair.
+#[derive(Clone, Copy, Debug, PartialEq, Eq)]
+pub struct PlainMark {
+    pub state: u8,
+    pub first: Position,
+    pub partner: Option<SeriesName>,
+}
+
+/// What the rule finds: a mark for every series, a row of nets for every sender.
+#[derive(Debug, Default, PartialEq, Eq)]
+pub struct Matching {
+    pub marks: HashMap<SeriesName, PlainMark>,
+    pub nets: HashMap<Field, [i32; POSITIONS]>,
+}
+
+/// The final quantity of a trade from the messages alone: the seller's, or 0 if only the buyer
+/// filed it. Nothing if neither did. Whether the position is closed is not asked here.
+pub fn final_quantity(
+    accepted: &[impl AsRef<[u8]>],
+    out_party: &[u8],
+    in_party: &[u8],
+    position: Position,
+) -> Option<u32> {
+    let filed_by = |sender: &[u8]| {
+        let last =
+            accepted.iter().rev().map(AsRef::as_ref).find(|message| field(block_at(message, 0), SENDER) == *sender);
+        blocks(last?)
+            .skip(1)
+            .find(|series| field(series, OUT_PARTY) == *out_party && field(series, IN_PARTY) == *in_party)
+    };
+    match filed_by(out_party) {
+        Some(series) => Some(quantity(series, position)),
+        None => filed_by(in_party).map(|_| 0),
+    }
+}
+
+/// Applies the rule to messages in the order of their acceptance. Since no accepted message may
+/// leave a stored series out, a sender's last message holds all that is in force for it.
+pub fn matching(accepted: &[impl AsRef<[u8]>]) -> Matching {
+    let mut last: HashMap<Field, &[u8]> = HashMap::new();
+    for message in accepted {
+        let message = message.as_ref();
+        last.insert(field(block_at(message, 0), SENDER), message);
+    }
+
+    let mut filed: HashMap<(Field, Field, Field), &Block> = HashMap::new();
+    for (&sender, message) in &last {
+        for series in blocks(message).skip(1) {
+            let (in_party, out_party) = pair(series);
+            filed.insert((sender, in_party, out_party), series);
+        }
+    }
+
+    let mut found = Matching::default();
+    for (&sender, message) in &last {
+        let n = block_at(message, 0)[N];
+        let mut sums = [0i32; POSITIONS];
+        for series in blocks(message).skip(1) {
+            let (in_party, out_party) = pair(series);
+            let buys = in_party == sender;
+            for (sum, value) in sums.iter_mut().zip(quantities(series)) {
+                *sum += if buys { value as i32 } else { -(value as i32) };
+            }
+            let other = if buys { out_party } else { in_party };
+            let mark = match filed.get(&(other, in_party, out_party)) {
+                None => PlainMark { state: 1, first: Position(0), partner: None },
+                Some(theirs) => {
+                    let partner = Some((other, field(theirs, ID)));
+                    let differing = (1..=u16::from(n))
+                        .map(Position)
+                        .find(|&position| quantity(series, position) != quantity(theirs, position));
+                    match differing {
+                        None => PlainMark { state: 2, first: Position(0), partner },
+                        Some(first) => PlainMark { state: 3, first, partner },
+                    }
+                }
+            };
+            found.marks.insert((sender, field(series, ID)), mark);
+        }
+        found.nets.insert(sender, sums);
+    }
+    found
+}

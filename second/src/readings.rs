@@ -1,0 +1,107 @@
+//! What can be read from a sound book: marks, accepted blocks, finals and the plain run.
+
+use std::collections::HashMap;
+
+use crate::block::*;
+use crate::book::SoundBook;
+use crate::counts::{Position, Slot};
+
+pub const NOT_SOUND: u8 = 1;
+pub const UNKNOWN_SERIES: u8 = 23;
+pub const NO_POSITION: u8 = 24;
+pub const NOT_CLOSED: u8 = 25;
+pub const UNKNOWN_PAIR: u8 = 26;
+
+/// The mark kept for a sender's series; number and zeros if refused. A sender or id that is
+/// unknown, malformed or of another length is simply not found.
+pub fn mark_of(book: &[u8], sender: &[u8], id: &[u8]) -> (u8, Mark) {
+    let zeros = Mark { state: 0, first: Position(0), partner: Slot(0) };
+    match SoundBook::of(book).map(|sound| sound.find_series(sender, id)) {
+        None => (NOT_SOUND, zeros),
+        Some(None) => (UNKNOWN_SERIES, zeros),
+        Some(Some((_, block))) => (0, mark(block)),
+    }
+}
+
+/// The block of a sender's series as a part of the book; empty if refused.
+pub fn accepted_block<'book>(book: &'book [u8], sender: &[u8], id: &[u8]) -> (u8, &'book [u8]) {
+    match SoundBook::of(book).map(|sound| sound.find_series(sender, id)) {
+        None => (NOT_SOUND, &[]),
+        Some(None) => (UNKNOWN_SERIES, &[]),
+        Some(Some((_, block))) => (0, block),
+    }
+}
+
+/// The final value of what the out party sells to the in party at a closed position.
+pub fn final_value(book: &[u8], out_party: &[u8], in_party: &[u8], position: Position) -> (u8, u32) {
+    match SoundBook::of(book) {
+        None => (NOT_SOUND, 0),
+        Some(sound) => final_in(&sound, out_party, in_party, position),
+    }
+}
+
+/// The same in a book already found sound.
+pub fn final_in(book: &SoundBook, out_party: &[u8], in_party: &[u8], position: Position) -> (u8, u32) {
+    if position.0 == 0 || position.0 > u16::from(book.n()) {
+        return (NO_POSITION, 0);
+    }
+    if position.is_open(book.clock(), book.lead()) {
+        return (NOT_CLOSED, 0);
+    }
+    // At most two series carry the pair, the seller's and the buyer's. The seller's decides; if
+    // only the buyer filed, the seller's missing series counts as 0.
+    let mut answer = (UNKNOWN_PAIR, 0);
+    for (_, block) in book.series() {
+        let (bought_by, sold_by) = pair(block);
+        if bought_by == *in_party && sold_by == *out_party {
+            if book.owner(block) == sold_by {
+                return (0, quantity(block, position));
+            }
+            answer = (0, 0);
+        }
+    }
+    answer
+}
+
+/// Computes every mark and net anew from the series and tells whether the book keeps just these.
+pub fn plain_run(book: &[u8]) -> (u8, bool) {
+    match SoundBook::of(book) {
+        None => (NOT_SOUND, false),
+        Some(sound) => (0, marks_are_true(&sound) && nets_are_true(&sound)),
+    }
+}
+
+fn marks_are_true(book: &SoundBook) -> bool {
+    let mut slots: HashMap<(Field, (Field, Field)), Slot> = HashMap::new();
+    for (slot, block) in book.series() {
+        slots.insert((book.owner(block), pair(block)), slot);
+    }
+    book.series().all(|(_, block)| {
+        let (in_party, out_party) = pair(block);
+        let other = if book.owner(block) == in_party { out_party } else { in_party };
+        let truth = match slots.get(&(other, (in_party, out_party))) {
+            None => Mark { state: 1, first: Position(0), partner: Slot(0) },
+            Some(&partner) => match first_difference(block, book.block(partner), book.n()) {
+                None => Mark { state: 2, first: Position(0), partner },
+                Some(first) => Mark { state: 3, first, partner },
+            },
+        };
+        mark(block) == truth
+    })
+}
+
+fn nets_are_true(book: &SoundBook) -> bool {
+    let mut sums: HashMap<Slot, [i64; POSITIONS]> = HashMap::new();
+    for (_, block) in book.series() {
+        let owner = Slot(u16_at(block, SENDER_SLOT));
+        let bought = field(block, IN_PARTY) == book.owner(block);
+        let sum = sums.entry(owner).or_insert([0; POSITIONS]);
+        for (sum, value) in sum.iter_mut().zip(quantities(block)) {
+            *sum += if bought { i64::from(value) } else { -i64::from(value) };
+        }
+    }
+    book.senders().all(|(slot, block)| {
+        let sum = sums.get(&slot).copied().unwrap_or([0; POSITIONS]);
+        nets(block).map(i64::from).eq(sum)
+    })
+}

@@ -1,0 +1,278 @@
+//! The self-check: the worked examples, then random calls with demand 3 held against the plain
+//! rule after every acceptance.
+
+use std::collections::HashMap;
+
+use crate::block::*;
+use crate::book::SoundBook;
+use crate::counts::{Position, Slot};
+use crate::desk::{Desk, Reply};
+use crate::examples::EXAMPLES;
+use crate::generator::Generator;
+use crate::histogram::Histogram;
+use crate::plain_rule::{self, Matching, PlainMark};
+use crate::readings::{final_in, plain_run};
+use crate::stream::Record;
+
+/// How many finals are remembered for one opening, so that reading them again stays quick.
+const MOST_FINALS: usize = 200;
+
+/// What has legally happened to the book since it was opened.
+///
+/// Damaged and crafted books are no part of that. Whether the buffer still is the legal book is
+/// seen by comparing bytes, so a book that was damaged and put back counts as legal again.
+#[derive(Default)]
+struct Ledger {
+    legal_book: Vec<u8>,
+    accepted: Vec<Vec<u8>>,
+    finals: HashMap<(Vec<u8>, Vec<u8>, u16), u32>,
+    verified: u64,
+    finals_read_again: u64,
+}
+
+impl Ledger {
+    /// Looks at one call: the buffer before it and after it.
+    fn observe(&mut self, record: &Record, reply: &Reply, before: &[u8], after: &[u8]) -> Result<(), String> {
+        let refused = match reply {
+            Reply::Open(number) | Reply::Clock { number, .. } => *number != 0,
+            Reply::Submit(verdict) => verdict.broken.is_some(),
+            _ => false,
+        };
+        if refused {
+            return if before == after { Ok(()) } else { Err("a refused call changed the book".into()) };
+        }
+        match (record, reply) {
+            (Record::Open { .. }, _) => {
+                self.legal_book = after.to_vec();
+                self.accepted.clear();
+                self.finals.clear();
+            }
+            (Record::Clock(_), _) if before == self.legal_book => {
+                self.legal_book = after.to_vec();
+                self.verify(after)?;
+            }
+            (Record::Submit(message), _) => {
+                written_only_where_allowed(message, before, after)?;
+                if before == self.legal_book {
+                    self.legal_book = after.to_vec();
+                    self.accepted.push(message.clone());
+                    self.verify(after)?;
+                    if plain_run(after) != (0, true) {
+                        return Err("the plain run denies a legal book".into());
+                    }
+                }
+            }
+            (Record::Final { out_party, in_party, position }, Reply::Final { number: number @ (0 | 26), value })
+                if after == self.legal_book =>
+            {
+                let plain = plain_rule::final_quantity(&self.accepted, out_party, in_party, Position(*position));
+                if plain != (*number == 0).then_some(*value) {
+                    return Err("a final differs from the accepted messages".into());
+                }
+                let name = (out_party.clone(), in_party.clone(), *position);
+                if *number == 0 && *self.finals.entry(name).or_insert(*value) != *value {
+                    return Err("a final value changed".into());
+                }
+            }
+            _ => {}
+        }
+        Ok(())
+    }
+
+    /// Demand 3 on a legal book: kept marks and nets are those of the plain rule over the accepted
+    /// messages, and no final given so far has changed.
+    fn verify(&mut self, book: &[u8]) -> Result<(), String> {
+        let sound = SoundBook::of(book).ok_or("an acceptance left the book unsound")?;
+        let kept = kept_matching(&sound);
+        let plain = plain_rule::matching(&self.accepted);
+        if kept.marks != plain.marks {
+            return Err("kept marks differ from the plain rule".into());
+        }
+        if kept.nets != plain.nets {
+            return Err("kept nets differ from the plain rule".into());
+        }
+        for ((out_party, in_party, position), &value) in &self.finals {
+            if final_in(&sound, out_party, in_party, Position(*position)) != (0, value) {
+                return Err("a final value given before is not given again".into());
+            }
+            self.finals_read_again += 1;
+        }
+        self.verified += 1;
+        self.ask_for_finals(&sound);
+        Ok(())
+    }
+
+    /// Reads some finals of its own accord, beside those the calls ask for: other trades each time,
+    /// at the position that closed last and at one before it.
+    fn ask_for_finals(&mut self, book: &SoundBook) {
+        let closed =
+            (1..=u16::from(book.n())).take_while(|&p| Position(p).is_closed(book.clock(), book.lead())).count() as u16;
+        let trades: Vec<(Field, Field)> = book.series().map(|(_, block)| pair(block)).collect();
+        if closed == 0 || trades.is_empty() {
+            return;
+        }
+        for turn in 0..4 {
+            let (in_party, out_party) = trades[(4 * self.verified as usize + turn) % trades.len()];
+            let position = if turn % 2 == 0 { closed } else { 1 + (7 * self.verified % u64::from(closed)) as u16 };
+            let (number, value) = final_in(book, &out_party, &in_party, Position(position));
+            if number == 0 && self.finals.len() < MOST_FINALS {
+                self.finals.entry((out_party.to_vec(), in_party.to_vec(), position)).or_insert(value);
+            }
+        }
+    }
+}
+
+/// Marks and nets as a book keeps them; the partner is told as the series in its slot.
+fn kept_matching(book: &SoundBook) -> Matching {
+    let mut kept = Matching::default();
+    for (_, block) in book.series() {
+        let mark = mark(block);
+        let partner = (mark.partner.0 != 0).then(|| {
+            let other = book.block(mark.partner);
+            (book.owner(other), field(other, ID))
+        });
+        kept.marks
+            .insert((book.owner(block), field(block, ID)), PlainMark { state: mark.state, first: mark.first, partner });
+    }
+    for (_, block) in book.senders() {
+        let mut row = [0; POSITIONS];
+        row.iter_mut().zip(nets(block)).for_each(|(place, net)| *place = net);
+        kept.nets.insert(field(block, SENDER), row);
+    }
+    kept
+}
+
+/// After an acceptance, on any book: the day block and free slots stay, other senders' blocks
+/// change in nothing but their series' marks, and the sender's blocks say what the message said.
+fn written_only_where_allowed(message: &[u8], before: &[u8], after: &[u8]) -> Result<(), String> {
+    let sound = SoundBook::of(after).ok_or("an acceptance left the book unsound")?;
+    let head = block_at(message, 0);
+    let sender = field(head, SENDER);
+    let slot = sound.sender_slot(&sender).ok_or("the sender has no slot")?;
+    let kept = sound.block(slot);
+    if kept[..VALUES] != head[..VALUES] {
+        return Err("the sender block is not the message's".into());
+    }
+    for series in blocks(message).skip(1) {
+        let (_, block) = sound.find_series(&sender, &field(series, ID)).ok_or("a series was not entered")?;
+        if block[..6] != series[..6]
+            || block[8..MARK] != series[8..MARK]
+            || block[VALUES..CHECK] != series[VALUES..CHECK]
+        {
+            return Err("a series is not the message's".into());
+        }
+    }
+    sender_side_is_true(&sound, slot)?;
+    for (place, (old, new)) in blocks(before).zip(blocks(after)).enumerate() {
+        let own = place == usize::from(slot.0) || new[KIND] == KIND_SERIES && u16_at(new, SENDER_SLOT) == slot.0;
+        let same = if own {
+            true
+        } else if new[KIND] == KIND_SERIES {
+            old[..MARK] == new[..MARK] && old[VALUES..CHECK] == new[VALUES..CHECK]
+        } else {
+            old == new
+        };
+        if !same {
+            return Err(format!("block {place} changed and belongs to somebody else"));
+        }
+    }
+    Ok(())
+}
+
+/// After an acceptance, on any book and whatever it kept before: the marks of the sender's series
+/// and of their counterparts are true, and so are the sender's nets. Found by plain search.
+fn sender_side_is_true(book: &SoundBook, slot: Slot) -> Result<(), String> {
+    let sender = field(book.block(slot), SENDER);
+    let mut sums = [0i64; POSITIONS];
+    for (own_slot, own) in book.series_of(slot) {
+        let (in_party, out_party) = pair(own);
+        let sign = if in_party == sender { 1 } else { -1 };
+        sums.iter_mut().zip(quantities(own)).for_each(|(sum, value)| *sum += sign * i64::from(value));
+        let counterpart = book
+            .series()
+            .find(|(_, block)| u16_at(block, SENDER_SLOT) != slot.0 && pair(block) == (in_party, out_party));
+        let (other_slot, other) = match counterpart {
+            None if own[MARK..VALUES] == [1, 0, 0, 0] => continue,
+            None => return Err("a series without counterpart has a wrong mark".into()),
+            Some(other) => other,
+        };
+        let first = (1..=u16::from(book.n())).find(|&p| quantity(own, Position(p)) != quantity(other, Position(p)));
+        let state = if first.is_some() { 3 } else { 2 };
+        let expected = |partner| Mark { state, first: Position(first.unwrap_or(0)), partner };
+        if mark(own) != expected(other_slot) || mark(other) != expected(own_slot) {
+            return Err("the marks of a trade's two sides are wrong".into());
+        }
+    }
+    if !nets(book.block(slot)).map(i64::from).eq(sums) {
+        return Err("the sender's nets are wrong".into());
+    }
+    Ok(())
+}
+
+/// Makes random calls and looks at each of them.
+fn checked_calls(seed: u64, calls: u64, histogram: &mut Histogram) -> Result<Ledger, String> {
+    let mut generator = Generator::new(seed);
+    let mut desk = Desk::new();
+    let mut ledger = Ledger::default();
+    let mut before = Vec::new();
+    let mut made = 0;
+    while made < calls {
+        let record = generator.next(desk.book());
+        if record.may_change() {
+            before.clear();
+            before.extend_from_slice(desk.book());
+        }
+        let reply = desk.answer(&record).expect("the generator keeps within the buffer");
+        made += u64::from(record.is_call());
+        histogram.count(&record, &reply, desk.book());
+        ledger
+            .observe(&record, &reply, &before, desk.book())
+            .map_err(|failure| format!("failed at call {made} of seed {seed}: {failure}"))?;
+    }
+    Ok(ledger)
+}
+
+/// Runs everything and prints what was seen; tells whether all was well.
+pub fn run(seed: u64, calls: u64) -> bool {
+    let mut well = true;
+    for (name, example) in EXAMPLES {
+        if let Err(failure) = example() {
+            println!("example failed: {name}: {failure}");
+            well = false;
+        }
+    }
+    println!("{} worked examples run", EXAMPLES.len());
+
+    let mut histogram = Histogram::new();
+    match checked_calls(seed, calls, &mut histogram) {
+        Err(failure) => {
+            println!("{failure}");
+            return false;
+        }
+        Ok(ledger) => println!(
+            "{calls} calls with seed {seed}; demand 3 held {} times, finals read again {} times",
+            ledger.verified, ledger.finals_read_again
+        ),
+    }
+    print!("{histogram}");
+    for label in histogram.missing() {
+        println!("never seen: {label}");
+        well = false;
+    }
+    println!("{}", if well { "all well" } else { "not well" });
+    well
+}
+
+#[cfg(test)]
+mod tests {
+    use super::*;
+
+    #[test]
+    fn random_calls_keep_demand_3() {
+        for seed in [2, 3] {
+            let ledger = checked_calls(seed, 20_000, &mut Histogram::new()).expect("all calls are well");
+            assert!(ledger.verified > 1_000);
+            assert!(ledger.finals_read_again > 100);
+        }
+    }
+}

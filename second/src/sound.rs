@@ -1,0 +1,249 @@
+//! Whether a book is sound, and if not, by which clauses.
+
+use crate::block::*;
+use crate::clause::clauses;
+use crate::counts::{Slot, LATEST_MINUTE, LONGEST_LEAD};
+use crate::identifier::{is_valid_eic, is_well_formed_id};
+
+pub const FEWEST_BLOCKS: usize = 2;
+pub const MOST_BLOCKS: usize = 1_001;
+
+clauses! {
+    /// The single conditions of a sound book, in the order of the paper's paragraph.
+    SoundClause {
+        WholeBlocks "length: not whole blocks",
+        BlockCount "length: fewer than 2 or more than 1,001 blocks",
+        Check "a check wrong",
+        DayKind "day block: kind",
+        DayN "day block: n",
+        DayLead "day block: lead",
+        DayClock "day block: clock",
+        DayZeroBytes "day block: a byte that must be 0",
+        DayDigits "day block: day not eight digits",
+        DayArea "day block: area not an EIC",
+        DayReceiver "day block: receiver not an EIC",
+        FreeBeforeUsed "a free slot before a used one",
+        Kind "used slot neither sender nor series",
+        SenderVersion "sender: version out of range",
+        SenderCount "sender: count out of range",
+        NetRange "sender: net out of range",
+        NetAboveN "sender: net above n",
+        SeriesVersion "series: version out of range",
+        QuantityRange "series: quantity out of range",
+        QuantityAboveN "series: quantity above n",
+        MessageId "sender: message id malformed",
+        SeriesId "series: id malformed",
+        SenderZeroBytes "sender: a byte that must be 0",
+        SenderN "sender: n not the day block's",
+        SeriesN "series: n not the day block's",
+        SenderDay "sender: day not the day block's",
+        InArea "series: in area not the day block's",
+        OutArea "series: out area not the day block's",
+        SenderReceiver "sender: receiver not the day block's",
+        ContractType "series: contract type not 0",
+        Agreement "series: capacity agreement not 0",
+        BusinessType "series: business type not 2",
+        SenderEic "sender: not an EIC",
+        SenderTwice "two senders with one EIC",
+        SenderSlot "series: names no sender's slot",
+        PartiesEqual "series: both parties equal",
+        InParty "series: in party not an EIC",
+        OutParty "series: out party not an EIC",
+        NeitherSender "series: neither party is its sender",
+        SeriesIdTwice "a sender's series id twice",
+        PairTwice "a sender's pair twice",
+        CountWrong "sender: count is not that of its series",
+        State "series: state not 1 to 3",
+        First "series: first above n",
+        Partner "series: partner neither 0 nor a series slot",
+    }
+}
+
+/// The first broken clause, if any.
+pub fn first_broken(book: &[u8]) -> Option<SoundClause> {
+    SoundClause::first(broken_clauses(book))
+}
+
+pub fn is_sound(book: &[u8]) -> bool {
+    broken_clauses(book) == 0
+}
+
+/// Whether a book may have this many bytes.
+pub fn length_is_right(bytes: usize) -> bool {
+    bytes % BLOCK_BYTES == 0 && (FEWEST_BLOCKS..=MOST_BLOCKS).contains(&(bytes / BLOCK_BYTES))
+}
+
+/// Adds a clause to the set when its condition does not hold.
+macro_rules! demand {
+    ($broken:ident, $clause:ident, $holds:expr) => {
+        if !$holds {
+            $broken |= SoundClause::$clause.bit();
+        }
+    };
+}
+
+/// All broken clauses, as far as the book can be read at all: with a wrong length, a wrong check
+/// or a day block without a lawful n nothing further is judged.
+pub fn broken_clauses(book: &[u8]) -> u64 {
+    if book.len() % BLOCK_BYTES != 0 {
+        return SoundClause::WholeBlocks.bit();
+    }
+    if !length_is_right(book.len()) {
+        return SoundClause::BlockCount.bit();
+    }
+    let count = book.len() / BLOCK_BYTES;
+    let mut used: Vec<(Slot, &Block)> = Vec::with_capacity(count);
+    let mut gap = false;
+    let mut gap_before_used = false;
+    for (place, block) in blocks(book).enumerate() {
+        // An all-zero block has the right check, which is 0.
+        if place > 0 && is_free(block) {
+            gap = true;
+            continue;
+        }
+        if !check_is_right(block) {
+            return SoundClause::Check.bit();
+        }
+        gap_before_used |= gap;
+        if place > 0 {
+            used.push((Slot(place as u16), block));
+        }
+    }
+
+    let day = block_at(book, 0);
+    let mut broken = broken_in_day(day);
+    if broken & SoundClause::DayN.bit() != 0 {
+        return broken;
+    }
+    demand!(broken, FreeBeforeUsed, !gap_before_used);
+    for &(_, block) in &used {
+        broken |= match block[KIND] {
+            KIND_SENDER => broken_in_sender(block, day),
+            KIND_SERIES => broken_in_series(block, day),
+            _ => SoundClause::Kind.bit(),
+        };
+    }
+    broken | broken_between(&used, count)
+}
+
+fn broken_in_day(day: &Block) -> u64 {
+    let mut broken = 0;
+    demand!(broken, DayKind, day[KIND] == KIND_DAY);
+    demand!(broken, DayN, matches!(day[N], 92 | 96 | 100));
+    demand!(broken, DayLead, u16_at(day, LEAD) <= LONGEST_LEAD);
+    demand!(broken, DayClock, u16_at(day, CLOCK) <= LATEST_MINUTE);
+    demand!(broken, DayZeroBytes, all_zero(&day[6..8]) && all_zero(&day[16..24]) && all_zero(&day[56..CHECK]));
+    demand!(broken, DayDigits, is_day(&day[DAY_IN_DAY_BLOCK..DAY_IN_DAY_BLOCK + DAY_DIGITS]));
+    demand!(broken, DayArea, is_valid_eic(&field(day, AREA)));
+    demand!(broken, DayReceiver, is_valid_eic(&field(day, RECEIVER)));
+    broken
+}
+
+fn broken_in_sender(sender: &Block, day: &Block) -> u64 {
+    let n = usize::from(day[N]);
+    let mut broken = 0;
+    demand!(broken, SenderVersion, (1..=HIGHEST_VERSION).contains(&u16_at(sender, VERSION)));
+    demand!(broken, SenderCount, (1..=MOST_SERIES).contains(&u16_at(sender, COUNT)));
+    let highest = nets(sender).take(n).fold(0, |highest, net| highest.max(net.unsigned_abs()));
+    demand!(broken, NetRange, highest <= HIGHEST_NET as u32);
+    demand!(broken, NetAboveN, all_zero(&sender[VALUES + 4 * n..CHECK]));
+    demand!(broken, MessageId, is_well_formed_id(&field(sender, ID)));
+    demand!(broken, SenderZeroBytes, all_zero(&sender[6..8]) && all_zero(&sender[64..VALUES]));
+    demand!(broken, SenderN, sender[N] == day[N]);
+    demand!(
+        broken,
+        SenderDay,
+        sender[DAY_IN_SENDER..DAY_IN_SENDER + DAY_DIGITS] == day[DAY_IN_DAY_BLOCK..DAY_IN_DAY_BLOCK + DAY_DIGITS]
+    );
+    demand!(broken, SenderReceiver, field(sender, RECEIVER) == field(day, RECEIVER));
+    demand!(broken, SenderEic, is_valid_eic(&field(sender, SENDER)));
+    broken
+}
+
+fn broken_in_series(series: &Block, day: &Block) -> u64 {
+    let n = usize::from(day[N]);
+    let area = field(day, AREA);
+    let (in_party, out_party) = pair(series);
+    let mut broken = 0;
+    demand!(broken, SeriesVersion, (1..=HIGHEST_VERSION).contains(&u16_at(series, VERSION)));
+    let highest = quantities(series).take(n).fold(0, u32::max);
+    demand!(broken, QuantityRange, highest <= HIGHEST_QUANTITY);
+    demand!(broken, QuantityAboveN, all_zero(&series[VALUES + 4 * n..CHECK]));
+    demand!(broken, SeriesId, is_well_formed_id(&field(series, ID)));
+    demand!(broken, SeriesN, series[N] == day[N]);
+    demand!(broken, InArea, field(series, IN_AREA) == area);
+    demand!(broken, OutArea, field(series, OUT_AREA) == area);
+    demand!(broken, ContractType, series[CONTRACT_TYPE] == 0);
+    demand!(broken, Agreement, all_zero(&series[AGREEMENT..AGREEMENT + 16]));
+    demand!(broken, BusinessType, series[BUSINESS_TYPE] == INTERNAL_TRADE);
+    demand!(broken, PartiesEqual, in_party != out_party);
+    demand!(broken, InParty, is_valid_eic(&in_party));
+    demand!(broken, OutParty, is_valid_eic(&out_party));
+    demand!(broken, State, (1..=3).contains(&series[STATE]));
+    demand!(broken, First, usize::from(series[FIRST]) <= n);
+    broken
+}
+
+/// The clauses that set several blocks beside each other.
+fn broken_between(used: &[(Slot, &Block)], count: usize) -> u64 {
+    let mut broken = 0;
+    // By slot: the kind of block there and, for senders, its EIC.
+    let mut kinds = vec![0u8; count];
+    let mut eics = vec![[0u8; 16]; count];
+    let mut senders: Vec<u128> = Vec::new();
+    for &(slot, block) in used {
+        kinds[usize::from(slot.0)] = block[KIND];
+        if block[KIND] == KIND_SENDER {
+            let eic = field(block, SENDER);
+            eics[usize::from(slot.0)] = eic;
+            senders.push(key(eic));
+        }
+    }
+    demand!(broken, SenderTwice, all_distinct(&mut senders));
+
+    let kind_of = |slot: u16| kinds.get(usize::from(slot)).copied().unwrap_or(0);
+    let mut held = vec![0u16; count];
+    // A series belongs to the sender whose slot it names; ids and pairs are compared within it.
+    let mut ids: Vec<(u16, u128)> = Vec::with_capacity(used.len());
+    let mut pairs: Vec<(u16, u128, u128)> = Vec::with_capacity(used.len());
+    for &(_, block) in used.iter().filter(|(_, block)| block[KIND] == KIND_SERIES) {
+        let owner = u16_at(block, SENDER_SLOT);
+        if kind_of(owner) == KIND_SENDER {
+            let (in_party, out_party) = pair(block);
+            let eic = eics[usize::from(owner)];
+            demand!(broken, NeitherSender, in_party == eic || out_party == eic);
+            held[usize::from(owner)] += 1;
+            ids.push((owner, key(field(block, ID))));
+            pairs.push((owner, key(in_party), key(out_party)));
+        } else {
+            broken |= SoundClause::SenderSlot.bit();
+        }
+        let partner = u16_at(block, PARTNER);
+        demand!(broken, Partner, partner == 0 || kind_of(partner) == KIND_SERIES);
+    }
+    demand!(broken, SeriesIdTwice, all_distinct(&mut ids));
+    demand!(broken, PairTwice, all_distinct(&mut pairs));
+    for &(slot, block) in used.iter().filter(|(_, block)| block[KIND] == KIND_SENDER) {
+        demand!(broken, CountWrong, u16_at(block, COUNT) == held[usize::from(slot.0)]);
+    }
+    broken
+}
+
+fn all_zero(bytes: &[u8]) -> bool {
+    bytes.iter().fold(0, |seen, &byte| seen | byte) == 0
+}
+
+/// Eight digits; no calendar is asked.
+pub fn is_day(bytes: &[u8]) -> bool {
+    bytes.len() == DAY_DIGITS && bytes.iter().all(u8::is_ascii_digit)
+}
+
+/// A field as one number, so that sorting compares it in one step.
+fn key(field: Field) -> u128 {
+    u128::from_be_bytes(field)
+}
+
+fn all_distinct<T: Ord>(keys: &mut [T]) -> bool {
+    keys.sort_unstable();
+    keys.windows(2).all(|two| two[0] != two[1])
+}

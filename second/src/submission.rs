@@ -1,0 +1,417 @@
+//! Submitting a message: the order of checks and, when none is broken, the writing of the book.
+//!
+//! Judging and writing are two steps. The first only reads and ends in a plan; the second cannot
+//! fail. So no refusal, however late in the order, can leave half a message behind.
+
+use std::collections::{HashMap, HashSet};
+
+use crate::block::*;
+use crate::book::SoundBook;
+use crate::clause::clauses;
+use crate::codes::reason_code;
+use crate::counts::{Position, Slot};
+use crate::identifier::{is_valid_eic, is_well_formed_id};
+use crate::message;
+
+clauses! {
+    /// What a refusal rests on. Several of these share one number of the table.
+    Broken {
+        BookNotSound "book not sound",
+        MessageForm "form of the message",
+        Receiver "receiver not the book's",
+        SenderEic "sender not an EIC",
+        Day "day not the book's",
+        DayN "n not the book's",
+        MessageIdMalformed "message id malformed",
+        NewSenderVersion "new sender: version not 1",
+        OtherMessageId "known sender: other message id",
+        VersionNotNext "known sender: version does not follow the kept one",
+        VersionAbove999 "known sender: version above 999",
+        SeriesIdMalformed "series id malformed",
+        SeriesIdEarlier "series id twice in the message",
+        SeriesIdStored "series id kept with a different pair",
+        PairEarlier "pair twice in the message",
+        PairStored "pair kept under a different id",
+        InParty "in party not an EIC",
+        OutParty "out party not an EIC",
+        PartiesEqual "both parties equal",
+        NeitherSender "sender is no party",
+        InArea "in area not the book's",
+        OutArea "out area not the book's",
+        BusinessType "business type not 2",
+        ContractType "contract type not 0",
+        Agreement "capacity agreement not 0",
+        QuantityTopBit "quantity with its top bit set",
+        QuantityTooHigh "quantity above 9,999,999",
+        QuantityAboveN "quantity not 0 above n",
+        ClosedChanged "closed position of a kept series changed",
+        ClosedNew "closed position of a new series not 0",
+        VersionNotMessages "series new or changed: version not the message's",
+        VersionNotStored "series unchanged: version not the stored one",
+        SeriesAbsent "a kept series is missing",
+        NoRoom "more new blocks than free slots",
+    }
+}
+
+impl Broken {
+    /// The number of the rule in the table.
+    pub fn number(self) -> u8 {
+        use Broken::*;
+        match self {
+            BookNotSound => 1,
+            MessageForm => 2,
+            Receiver => 3,
+            SenderEic => 4,
+            Day | DayN => 5,
+            MessageIdMalformed | NewSenderVersion | OtherMessageId | VersionNotNext | VersionAbove999 => 6,
+            SeriesIdMalformed | SeriesIdEarlier | SeriesIdStored | PairEarlier | PairStored => 7,
+            InParty | OutParty | PartiesEqual | NeitherSender => 8,
+            InArea | OutArea => 9,
+            BusinessType | ContractType | Agreement => 10,
+            QuantityTopBit => 11,
+            QuantityTooHigh => 12,
+            QuantityAboveN => 13,
+            ClosedChanged | ClosedNew => 14,
+            VersionNotMessages | VersionNotStored => 15,
+            SeriesAbsent => 16,
+            NoRoom => 17,
+        }
+    }
+}
+
+/// The answer to a submission. Series number and position are 0 where the rule gives none.
+#[derive(Clone, Copy, Debug, PartialEq, Eq)]
+pub struct Verdict {
+    pub broken: Option<Broken>,
+    pub series: u16,
+    pub position: Position,
+}
+
+impl Verdict {
+    pub fn number(&self) -> u8 {
+        self.broken.map_or(0, Broken::number)
+    }
+
+    pub fn code(&self) -> u8 {
+        reason_code(self.number())
+    }
+
+    fn refused(broken: Broken) -> Self {
+        Verdict { broken: Some(broken), series: 0, position: Position(0) }
+    }
+}
+
+/// Judges a message against a book and, if no rule is broken, enters it.
+pub fn submit(book: &mut [u8], message: &[u8]) -> Verdict {
+    let judged = match SoundBook::of(book) {
+        None => Err(Verdict::refused(Broken::BookNotSound)),
+        Some(sound) => judge(&sound, message),
+    };
+    match judged {
+        Err(refusal) => refusal,
+        Ok(plan) => {
+            enter(book, message, &plan);
+            Verdict { broken: None, series: 0, position: Position(0) }
+        }
+    }
+}
+
+/// Where the blocks of an acceptable message go.
+struct Plan {
+    n: u8,
+    sender: Slot,
+    series: Vec<Place>,
+}
+
+struct Place {
+    slot: Slot,
+    /// False for a stored series whose quantities stay: then only its mark may change.
+    written: bool,
+    /// The slot of the other party's series with the same pair.
+    counterpart: Option<Slot>,
+}
+
+/// What the book holds of the sender.
+#[derive(Default)]
+struct Stored<'book> {
+    slot: Option<Slot>,
+    by_id: HashMap<Field, (Slot, &'book Block)>,
+    id_by_pair: HashMap<(Field, Field), Field>,
+}
+
+/// Rules 2 to 17, in their order.
+fn judge(book: &SoundBook, message: &[u8]) -> Result<Plan, Verdict> {
+    if message::broken_clauses(message) != 0 {
+        return Err(Verdict::refused(Broken::MessageForm));
+    }
+    let head = block_at(message, 0);
+    let sender = field(head, SENDER);
+    let stored = stored_of(book, &sender);
+    judge_head(book, head, &stored).map_err(Verdict::refused)?;
+
+    let mut places: Vec<Option<(Slot, bool)>> = Vec::new();
+    let mut ids: HashSet<Field> = HashSet::new();
+    let mut pairs: HashSet<(Field, Field)> = HashSet::new();
+    for (series, number) in blocks(message).skip(1).zip(1u16..) {
+        let before = stored.by_id.get(&field(series, ID)).copied();
+        let refuse = |(broken, position)| Verdict { broken: Some(broken), series: number, position };
+        let none = |broken| refuse((broken, Position(0)));
+        judge_id_and_pair(series, before, &stored, &mut ids, &mut pairs).map_err(none)?;
+        judge_parties(series, &sender).map_err(none)?;
+        judge_kind_of_trade(series, book.day()).map_err(none)?;
+        let changed = judge_quantities(series, before.map(|(_, block)| block), book).map_err(refuse)?;
+        judge_series_version(series, before.map(|(_, block)| block), changed, u16_at(head, VERSION)).map_err(none)?;
+        places.push(before.map(|(slot, _)| (slot, changed)));
+    }
+
+    // Rule 7 let each stored series in at most once, so counting them shows whether one is missing.
+    let known = places.iter().flatten().count();
+    if known < stored.by_id.len() {
+        return Err(Verdict::refused(Broken::SeriesAbsent));
+    }
+    let new = places.len() - known + usize::from(stored.slot.is_none());
+    if new > book.free_slots() {
+        return Err(Verdict::refused(Broken::NoRoom));
+    }
+    Ok(plan(book, message, &stored, &places))
+}
+
+fn stored_of<'book>(book: &SoundBook<'book>, sender: &Field) -> Stored<'book> {
+    let mut stored = Stored { slot: book.sender_slot(sender), ..Stored::default() };
+    if let Some(owner) = stored.slot {
+        for (slot, block) in book.series_of(owner) {
+            stored.by_id.insert(field(block, ID), (slot, block));
+            stored.id_by_pair.insert(pair(block), field(block, ID));
+        }
+    }
+    stored
+}
+
+/// Rules 3 to 6.
+fn judge_head(book: &SoundBook, head: &Block, stored: &Stored) -> Result<(), Broken> {
+    let day = book.day();
+    if field(head, RECEIVER) != field(day, RECEIVER) {
+        return Err(Broken::Receiver);
+    }
+    if !is_valid_eic(&field(head, SENDER)) {
+        return Err(Broken::SenderEic);
+    }
+    if head[DAY_IN_SENDER..DAY_IN_SENDER + DAY_DIGITS] != day[DAY_IN_DAY_BLOCK..DAY_IN_DAY_BLOCK + DAY_DIGITS] {
+        return Err(Broken::Day);
+    }
+    if head[N] != day[N] {
+        return Err(Broken::DayN);
+    }
+    if !is_well_formed_id(&field(head, ID)) {
+        return Err(Broken::MessageIdMalformed);
+    }
+    let version = u16_at(head, VERSION);
+    match stored.slot {
+        None if version != 1 => Err(Broken::NewSenderVersion),
+        None => Ok(()),
+        Some(slot) => {
+            let kept = book.block(slot);
+            if field(head, ID) != field(kept, ID) {
+                Err(Broken::OtherMessageId)
+            } else if version != u16_at(kept, VERSION) + 1 {
+                Err(Broken::VersionNotNext)
+            } else if version > HIGHEST_VERSION {
+                Err(Broken::VersionAbove999)
+            } else {
+                Ok(())
+            }
+        }
+    }
+}
+
+/// Rule 7. Parties are compared as they stand, in party first: rule 8 judges them only later.
+fn judge_id_and_pair(
+    series: &Block,
+    before: Option<(Slot, &Block)>,
+    stored: &Stored,
+    ids: &mut HashSet<Field>,
+    pairs: &mut HashSet<(Field, Field)>,
+) -> Result<(), Broken> {
+    let id = field(series, ID);
+    let parties = pair(series);
+    if !is_well_formed_id(&id) {
+        return Err(Broken::SeriesIdMalformed);
+    }
+    if !ids.insert(id) {
+        return Err(Broken::SeriesIdEarlier);
+    }
+    if before.map_or(false, |(_, block)| pair(block) != parties) {
+        return Err(Broken::SeriesIdStored);
+    }
+    if !pairs.insert(parties) {
+        return Err(Broken::PairEarlier);
+    }
+    if stored.id_by_pair.get(&parties).map_or(false, |other| *other != id) {
+        return Err(Broken::PairStored);
+    }
+    Ok(())
+}
+
+/// Rule 8.
+fn judge_parties(series: &Block, sender: &Field) -> Result<(), Broken> {
+    let (in_party, out_party) = pair(series);
+    if !is_valid_eic(&in_party) {
+        Err(Broken::InParty)
+    } else if !is_valid_eic(&out_party) {
+        Err(Broken::OutParty)
+    } else if in_party == out_party {
+        Err(Broken::PartiesEqual)
+    } else if in_party != *sender && out_party != *sender {
+        Err(Broken::NeitherSender)
+    } else {
+        Ok(())
+    }
+}
+
+/// Rules 9 and 10.
+fn judge_kind_of_trade(series: &Block, day: &Block) -> Result<(), Broken> {
+    let area = field(day, AREA);
+    if field(series, IN_AREA) != area {
+        Err(Broken::InArea)
+    } else if field(series, OUT_AREA) != area {
+        Err(Broken::OutArea)
+    } else if series[BUSINESS_TYPE] != INTERNAL_TRADE {
+        Err(Broken::BusinessType)
+    } else if series[CONTRACT_TYPE] != 0 {
+        Err(Broken::ContractType)
+    } else if field(series, AGREEMENT) != [0; 16] {
+        Err(Broken::Agreement)
+    } else {
+        Ok(())
+    }
+}
+
+/// Rules 11 to 13 in one pass over all hundred positions, then rule 14 in another. Tells whether
+/// a quantity differs from the stored series; a new series counts as changed.
+fn judge_quantities(series: &Block, before: Option<&Block>, book: &SoundBook) -> Result<bool, (Broken, Position)> {
+    let n = u16::from(book.n());
+    for (value, position) in quantities(series).zip((1..).map(Position)) {
+        let broken = if position.0 > n {
+            (value != 0).then_some(Broken::QuantityAboveN)
+        } else if value >> 31 != 0 {
+            Some(Broken::QuantityTopBit)
+        } else {
+            (value > HIGHEST_QUANTITY).then_some(Broken::QuantityTooHigh)
+        };
+        if let Some(broken) = broken {
+            return Err((broken, position));
+        }
+    }
+    // A new series is held against zeros, so that a late one cannot slip a value into a
+    // quarter-hour that is closed.
+    let nothing = [0; BLOCK_BYTES];
+    let kept = before.unwrap_or(&nothing);
+    let mut differs = false;
+    for ((value, old), position) in quantities(series).zip(quantities(kept)).zip((1..).map(Position)) {
+        if value != old {
+            differs = true;
+            if position.is_closed(book.clock(), book.lead()) {
+                let broken = if before.is_some() { Broken::ClosedChanged } else { Broken::ClosedNew };
+                return Err((broken, position));
+            }
+        }
+    }
+    Ok(differs || before.is_none())
+}
+
+/// Rule 15: a new or changed series carries the message's version, any other keeps its own.
+fn judge_series_version(
+    series: &Block,
+    before: Option<&Block>,
+    changed: bool,
+    message_version: u16,
+) -> Result<(), Broken> {
+    let version = u16_at(series, VERSION);
+    match before {
+        Some(kept) if !changed => {
+            if version == u16_at(kept, VERSION) {
+                Ok(())
+            } else {
+                Err(Broken::VersionNotStored)
+            }
+        }
+        _ if version == message_version => Ok(()),
+        _ => Err(Broken::VersionNotMessages),
+    }
+}
+
+/// Gives every block its slot and every series its counterpart. Stored series keep their slots;
+/// new blocks take the lowest free ones, the sender's block before the series.
+fn plan(book: &SoundBook, message: &[u8], stored: &Stored, places: &[Option<(Slot, bool)>]) -> Plan {
+    let mut next_free = book.used_slots() as u16 + 1;
+    let mut take_slot = || {
+        next_free += 1;
+        Slot(next_free - 1)
+    };
+    let sender = stored.slot.unwrap_or_else(&mut take_slot);
+
+    // A counterpart is a series of the other party, and that party stands in the pair: so among
+    // the series of others that name this sender the pair alone finds it.
+    let eic = field(block_at(message, 0), SENDER);
+    let mut counterparts: HashMap<(Field, Field), Slot> = HashMap::new();
+    for (slot, block) in book.series() {
+        let parties = pair(block);
+        let names_sender = parties.0 == eic || parties.1 == eic;
+        if names_sender && stored.slot != Some(Slot(u16_at(block, SENDER_SLOT))) {
+            counterparts.insert(parties, slot);
+        }
+    }
+    let series = blocks(message)
+        .skip(1)
+        .zip(places)
+        .map(|(block, place)| {
+            let (slot, written) = place.unwrap_or_else(|| (take_slot(), true));
+            Place { slot, written, counterpart: counterparts.get(&pair(block)).copied() }
+        })
+        .collect();
+    Plan { n: book.n(), sender, series }
+}
+
+/// Writes an accepted message into the book.
+fn enter(book: &mut [u8], message: &[u8], plan: &Plan) {
+    let sender = field(block_at(message, 0), SENDER);
+    let mut sums = [0i32; POSITIONS];
+    for (series, place) in blocks(message).skip(1).zip(&plan.series) {
+        // The mark of both sides: the series' own, and its counterpart's, which points back.
+        let mut own = Mark { state: 1, first: Position(0), partner: Slot(0) };
+        if let Some(counterpart) = place.counterpart {
+            let other = block_at_mut(book, usize::from(counterpart.0));
+            own.partner = counterpart;
+            (own.state, own.first) = match first_difference(series, other, plan.n) {
+                None => (2, Position(0)),
+                Some(position) => (3, position),
+            };
+            put_mark(other, Mark { partner: place.slot, ..own });
+            seal(other);
+        }
+
+        let kept = block_at_mut(book, usize::from(place.slot.0));
+        if place.written {
+            *kept = *series;
+            put_u16(kept, SENDER_SLOT, plan.sender.0);
+        }
+        put_mark(kept, own);
+        seal(kept);
+
+        // Bought adds, sold takes away.
+        let bought = field(series, IN_PARTY) == sender;
+        for (sum, value) in sums.iter_mut().zip(quantities(series)) {
+            if bought {
+                *sum += value as i32;
+            } else {
+                *sum -= value as i32;
+            }
+        }
+    }
+    let head = block_at_mut(book, usize::from(plan.sender.0));
+    *head = *block_at(message, 0);
+    for (four, sum) in head[VALUES..CHECK].chunks_exact_mut(4).zip(sums) {
+        four.copy_from_slice(&sum.to_le_bytes());
+    }
+    seal(head);
+}
