@@ -44,4 +44,58 @@ tetherbay_printed tetherbay_quantity_print(uint32_t kilowatts, uint8_t *buffer, 
 /* The reason code of a number, 53 for A53; 0 where it has none. */
 uint8_t tetherbay_reason_code(uint32_t number);
 
+/* ---- a day book: blocks of 512 bytes, from 2 to 1,001 of them */
+
+/* A position counts from 1, a slot from 1, a minute from 10,080 minutes before the day's start; 0 where an answer has none. */
+typedef struct {
+    uint8_t n;
+    uint16_t lead;
+    uint16_t clock;
+} tetherbay_day;
+
+/* 0, 1 or 22, and the day's state as then kept; zeros on 1. */
+typedef struct {
+    uint32_t number;
+    tetherbay_day state;
+} tetherbay_clock_answer;
+
+/* 0, 1 or 23, and the kept mark. */
+typedef struct {
+    uint32_t number;
+    uint8_t state;
+    size_t first;
+    size_t partner;
+} tetherbay_mark_answer;
+
+/* 0, 1, 24, 25 or 26, and the final value. */
+typedef struct {
+    uint32_t number;
+    uint32_t kilowatts;
+} tetherbay_final_answer;
+
+/* 0 and whether all kept marks and nets are true, or 1. */
+typedef struct {
+    uint32_t number;
+    bool holds;
+} tetherbay_plain_run_answer;
+
+bool tetherbay_sound(const uint8_t *book, size_t length);
+
+/* 0, 20 or 21. Success writes the day block and zeroes every slot; a refusal leaves the buffer. */
+uint32_t tetherbay_open(uint8_t *book, size_t length, uint8_t n, uint16_t lead, const uint8_t *day, size_t day_length, const uint8_t *area, size_t area_length,
+                        const uint8_t *receiver, size_t receiver_length);
+
+/* Moves the clock to a minute, which may not be lower than the kept one. */
+tetherbay_clock_answer tetherbay_clock(uint8_t *book, size_t length, uint16_t minute);
+
+/* The kept mark of a sender's series, by its id as the field of sixteen bytes. */
+tetherbay_mark_answer tetherbay_mark(const uint8_t *book, size_t length, const uint8_t *sender, size_t sender_length, const uint8_t *id, size_t id_length);
+
+/* The final value of a trade at a position. */
+tetherbay_final_answer tetherbay_final(const uint8_t *book, size_t length, const uint8_t *seller, size_t seller_length, const uint8_t *buyer, size_t buyer_length,
+                                       size_t position);
+
+/* Works all marks and nets out afresh. */
+tetherbay_plain_run_answer tetherbay_plain_run(const uint8_t *book, size_t length);
+
 #endif

@@ -1,0 +1,12 @@
+-- The bytes compared are the pair.
+use borrow.Author.Needs.{needs}
+use Rattle.paper.specs.Rules.{pairIs}
+use Rattle.marks.proofs.pair_is.Statement.{statement}
+use Rattle.marks.proofs.pair_is.Tie as tie
+
+returns : tie.Need-returns
+unfolding pairIs
+returns c = cc
+
+pub pair-is-spec : {M : Type 1} → statement M
+pair-is-spec = tie.close (tie.spec (λ c κs. search needs) (λ c κs. search needs) returns)

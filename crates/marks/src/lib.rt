@@ -1,0 +1,108 @@
+// The marks of "Marks and finals", worked out afresh: a series' counterpart among the used slots, the first position at which the two
+// differ, and the mark that this gives.
+ghost use mathlib.Core.Path.{_≡_};
+ghost use Prim.Native.Nat.{_≤_};
+ghost use Rattle.laws.specs.Cut.{cut};
+ghost use Rattle.paper.specs.Layout.{quantities};
+ghost use Rattle.paper.specs.Rules.{pairIs};
+ghost use Rattle.paper.specs.Marks.{isCounterpart, counterpartSlot, firstDifference, markIn};
+ghost use Rattle.paper.specs.PlainRun.{markTrue};
+use field::same;
+use layout::mark;
+use layout::pair;
+use layout::quantities;
+use layout::quantity;
+use layout::senders_slot;
+use paper::Position;
+use paper::Slot;
+use slots::block_at;
+use slots::is_series;
+use slots::numbered;
+
+// What two series of one trade have in common, and two of one sender never have.
+pub fn pair_is(x: &[u8], p: &[u8]) -> bool
+    ensures { λ r. ⌜ r ≡ pairIs (now (p .entry)) (now (x .entry)) ⌝ }
+{
+    same(pair(x), p)
+}
+
+// The kind and the sender's slot first: a search asks this of every used slot, and most have another pair.
+pub fn is_counterpart(y: &[u8], slot: Slot, p: &[u8]) -> bool
+    ensures { λ r. ⌜ r ≡ isCounterpart (slot .0) (now (p .entry)) (now (y .entry)) ⌝ }
+{
+    if !is_series(y) {
+        return false;
+    }
+    if senders_slot(y).0 == slot.0 {
+        return false;
+    }
+    pair_is(y, p)
+}
+
+// The slot of the other party's series; 0 where it has none.
+pub fn counterpart_slot(us: &[u8], x: &[u8]) -> Slot
+    ensures { λ r. ⌜ r .0 ≡ counterpartSlot (cut 512 (now (us .entry))) (now (x .entry)) ⌝ }
+{
+    let slot = senders_slot(x).0;
+    let p = pair(x);
+    let many = us.len() / 512;
+    let mut i = 0;
+    while i < many {
+        if is_counterpart(block_at(us, i), Slot(slot), p) {
+            return Slot(i + 1);
+        }
+        i += 1;
+    }
+    Slot(0)
+}
+
+// The lowest of n positions at which two series differ; 0 where they agree. Two that agree, as most do, are compared as bytes.
+pub fn first_difference(n: usize, a: &[u8], b: &[u8]) -> Position
+    requires { ⌜ n ≤ 100 ⌝ }
+    ensures { λ r. ⌜ (r .0 ≡ firstDifference n (quantities (now (a .entry))) (quantities (now (b .entry)))) × (r .0 ≤ n) ⌝ }
+{
+    if same(quantities(a), quantities(b)) {
+        return Position(0);
+    }
+    let mut k = 0;
+    while k < n {
+        if quantity(a, k) != quantity(b, k) {
+            return Position(k + 1);
+        }
+        k += 1;
+    }
+    Position(0)
+}
+
+// State, first and partner as the block keeps them: 1 alone, 2 matched, 3 mismatched.
+pub fn mark_in(n: usize, us: &[u8], x: &[u8]) -> [u8; 4]
+    requires { ⌜ n ≤ 100 ⌝ }
+    ensures { λ r. ⌜ r ≡ markIn n (cut 512 (now (us .entry))) (now (x .entry)) ⌝ }
+{
+    let partner = counterpart_slot(us, x).0;
+    if partner == 0 {
+        return [1, 0, 0, 0];
+    }
+    let first = first_difference(n, x, numbered(us, Slot(partner))).0;
+    if first == 0 {
+        return [2, 0, (partner % 256) as u8, (partner / 256 % 256) as u8];
+    }
+    [
+        3,
+        first as u8,
+        (partner % 256) as u8,
+        (partner / 256 % 256) as u8,
+    ]
+}
+
+// A block that is no series has no mark to be wrong.
+pub fn mark_true(n: usize, us: &[u8], x: &[u8]) -> bool
+    requires { ⌜ n ≤ 100 ⌝ }
+    ensures { λ r. ⌜ r ≡ markTrue n (cut 512 (now (us .entry))) (now (x .entry)) ⌝ }
+{
+    if !is_series(x) {
+        return true;
+    }
+    let due = mark_in(n, us, x);
+    same(mark(x), &due)
+}

@@ -1,0 +1,45 @@
+-- No sender passes; a sender passes if its nets have the bytes of the sums of its own series.
+use Rattle.laws.specs.Kit.{needs, refl, told, denied}
+use Rattle.laws.specs.Tests.{_and_, _or_, neg, is}
+use Rattle.laws.specs.Lists.{every}
+use Rattle.paper.specs.Layout.{zeros}
+use Rattle.paper.specs.PlainRun.{netsTrue}
+use Rattle.nets.proofs.Nets.{few-cut}
+use Rattle.nets.proofs.Words.{words-own}
+use Rattle.nets.proofs.nets_true.Statement.{statement}
+use Rattle.nets.proofs.nets_true.Tie as tie
+
+no-sender : tie.Need-returns
+unfolding netsTrue _or_ neg
+no-sender c = rw (denied (c .before .is-sender .ensures) (c .if1 .taken))
+
+compared : tie.Need-returns-2
+unfolding netsTrue _or_ neg zeros every is _and_
+compared c =
+    let n = c .before .before in
+    let p = n .before .before in
+    let a = p .before .before .before .before in
+    let s = a .before .before .before in
+    let i = s .before .before in
+    let k = i .before .before in
+    let few = few-cut (k .before .args .us .now) (k .shared-slice-known .given) (k .before .pre) in
+    let due = words-own _ _ _ _ _ _ _ few refl (a .before .slot-of .ensures) (a .add-own .ensures) refl (p .put-words .ensures) in
+    rw (told (i .is-sender .ensures) (s .before .if1 .left), ← n .nets .ensures, ← s .sender .ensures, ← due) (c .same .ensures)
+
+pub nets-true-spec : {M : Type 1} → statement M
+nets-true-spec =
+    tie.close
+    (tie.spec
+    (λ c κs. search needs)
+    no-sender
+    (λ c κs. search needs)
+    (search needs)
+    (λ c κs. search needs)
+    (λ c κs. search needs)
+    (search needs)
+    (search needs)
+    (λ c κs. search needs)
+    (λ c κs. search needs)
+    (search needs)
+    (λ c κs. search needs)
+    compared)

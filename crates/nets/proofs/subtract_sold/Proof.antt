@@ -1,0 +1,21 @@
+-- The sums are lowered where the sender is the out party, and else are as they were.
+use Rattle.laws.specs.Kit.{needs}
+use Rattle.nets.specs.Sums.{soldShare}
+use Rattle.nets.proofs.Raising.{raised-agree, raised-still}
+use Rattle.nets.proofs.subtract_sold.Statement.{statement}
+use Rattle.nets.proofs.subtract_sold.Tie as tie
+
+seller : tie.Need-returns
+unfolding soldShare
+seller c =
+    let q = c .before .before in
+    let i = q .before .before in
+    raised-agree _ _ _ _ _ (λ k. rw (← i .before .before .out-party .ensures, ← i .before .same .ensures, i .if1 .taken)) (q .subtract-quantities .ensures)
+
+other : tie.Need-returns-2
+unfolding soldShare
+other c = raised-still _ _ _ (λ k. rw (← c .before .before .out-party .ensures, ← c .before .same .ensures, c .if1 .left))
+
+pub subtract-sold-spec : {M : Type 1} → statement M
+subtract-sold-spec =
+    tie.close (tie.spec (λ c κs. search needs) (λ c κs. search needs) (λ c κs. search needs) (search needs) seller other)

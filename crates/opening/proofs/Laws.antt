@@ -1,0 +1,6 @@
+-- What the proofs of an opening rest on.
+pub mod Bytes
+pub mod DayBlock
+pub mod Written
+pub mod Judged
+pub mod Opened

@@ -1,0 +1,18 @@
+-- A block made of the parameters holds them in its fields, so that it is sound exactly when each passes its own test.
+use Rattle.laws.specs.Kit.{needs, arith, sym}
+use denote.Ref.{now}
+use Rattle.laws.specs.Tests.{_and_}
+use Rattle.paper.specs.Opening.{Opening}
+use Rattle.opening.proofs.Laws.Judged.{opening-tested}
+use Rattle.opening.proofs.opening_allowed.Statement.{statement}
+use Rattle.opening.proofs.opening_allowed.Tie as tie
+
+returns : tie.Need-returns
+unfolding _and_
+returns c =
+    let a = c .before .before .before .before .before .before .before .before .before .before .before .args in
+    let o : Opening = record { n = a .n; lead = a .lead; day = now (a .day); area = now (a .area); receiver = now (a .receiver) } in
+    rw (sym (opening-tested o (omega arith))) (cc)
+
+pub opening-allowed-spec : {M : Type 1} → statement M
+opening-allowed-spec = tie.close (tie.spec (λ c κs. search needs) (λ c κs. search needs) (λ c κs. search needs) (λ c κs. search needs) (λ c κs. search needs) (λ c κs. search needs) returns)

@@ -1,0 +1,55 @@
+-- What a sound book says of its length and of n, and its used slots as a part of its bytes.
+use Rattle.laws.specs.Kit.{_≡_, ap, _∙_, Bool, true, false, _&&_, [], ℕ, _-_, _*_, _/_, _≤_, _<_, arith, length, take, drop}
+use lib.ListN.{drop-of-length-le}
+use Rattle.laws.specs.Tests.{_and_}
+use Rattle.laws.specs.Lists.{every, until}
+use Rattle.laws.specs.Lists.Laws.{until-take, until-length}
+use Rattle.laws.specs.Bytes.{part}
+use Rattle.laws.specs.Slices.{rest-slice}
+use Rattle.laws.specs.Cut.{cut}
+use Rattle.laws.specs.Cut.Laws.{cut-length, cut-short, take-cut}
+use Rattle.paper.specs.Layout.{Bytes, nOf}
+use Rattle.paper.specs.Book.{dayBlock, slots, isFree, used}
+use Rattle.paper.specs.Sound.{sound}
+use Rattle.paper.specs.PlainRun.{markTrue, netsTrue, plainRun}
+use Rattle.facts.specs.Sound.{sound-says, day-says}
+
+-- ---- a sound book
+
+module _ (book : Bytes) (e : sound book ≡ true) where
+  pub sound-length : length book ≤ 513023
+  sound-length = let h : length book / 512 ≤ 1001 = sound-says book e .most in omega arith
+
+  pub sound-n : nOf (dayBlock book) ≤ 100
+  sound-n = day-says (dayBlock book) (sound-says book e .day) .n-most
+
+-- ---- the used slots
+
+pub used-none : (book : Bytes) → length book < 512 → cut 512 [] ≡ used book
+unfolding used slots until
+used-none book h = let n : length book ≤ 512 = omega arith in rw (drop-of-length-le book n, cut-short {A = ℕ} 512 [] (omega arith))
+
+pub used-part : (book : Bytes) (u : ℕ) → u ≡ length (until isFree (cut 512 (take (length book - 512) (drop 512 book))))
+    → cut 512 (take (512 * u) (take (length book - 512) (drop 512 book))) ≡ used book
+unfolding used slots
+used-part book u e =
+    let s : Bytes = drop 512 book in
+    let q : u ≡ length (until isFree (cut 512 s)) = e ∙ ap (λ b. length (until isFree (cut 512 b))) (rest-slice 512 book) in
+    let h : u ≤ length s / 512 = omega (arith, until-length isFree (cut 512 s), cut-length 512 s) in
+    ap (λ b. cut 512 (take (512 * u) b)) (rest-slice 512 book) ∙ take-cut 512 s u h ∙ until-take isFree (cut 512 s) u q
+
+-- ---- the answer
+
+pub n-day : (book p : Bytes) (n : ℕ) → n ≡ nOf p → p ≡ part 0 512 book → n ≡ nOf (dayBlock book)
+unfolding dayBlock part
+n-day book p n e q = e ∙ ap nOf q
+
+pub not-sound : (book : Bytes) → sound book ≡ false → record { number = 1; holds = false } ≡ plainRun book
+unfolding plainRun
+not-sound book e = rw e
+
+-- n of the day, the used slots us, and what is found of their marks m and of their nets t
+pub found : (book us : Bytes) (n : ℕ) (m t : Bool) → sound book ≡ true → n ≡ nOf (dayBlock book) → cut 512 us ≡ used book
+    → m ≡ every (markTrue n (cut 512 us)) (cut 512 us) → t ≡ every (netsTrue (cut 512 us)) (cut 512 us) → record { number = 0; holds = m && t } ≡ plainRun book
+unfolding plainRun _and_
+found book us n m t e d u p q = rw (e, ← d, ← u, ← p, ← q)

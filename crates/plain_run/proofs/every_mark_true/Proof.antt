@@ -1,0 +1,34 @@
+-- What is found so far, with the test of the slots left, is the test of all.
+use Rattle.laws.specs.Kit.{needs, arith, _≡_, _≤_, _-_, _/_, length, drop, step-cut-at, end-cut}
+use Rattle.laws.specs.Tests.{_and_}
+use Rattle.laws.specs.Lists.{every}
+use Rattle.laws.specs.Loops.{every-start, every-go, every-end}
+use Rattle.laws.specs.Cut.{cut}
+use Rattle.paper.specs.PlainRun.{markTrue}
+use Rattle.plain_run.proofs.every_mark_true.Statement.{statement}
+use Rattle.plain_run.proofs.every_mark_true.Tie as tie
+
+abbrev Inv-loop : tie.InvT-loop
+Inv-loop n us many ok₀ i₀ ok i = (i ≤ length us / 512) × (every (markTrue n (cut 512 us)) (cut 512 us) ≡ (ok and every (markTrue n (cut 512 us)) (drop i (cut 512 us))))
+
+abbrev μ-loop : tie.MeasureT-loop
+μ-loop n us many ok₀ i₀ ok i = length us / 512 - i
+
+more : tie.Need-loop-again Inv-loop μ-loop
+more c =
+    let t = c .before .before in
+    (omega arith, every-go _ (t .before .loop .ok) (t .before .loop .inv .1) (step-cut-at _ _ _ (t .loop-test .taken)) (cc))
+
+pub every-mark-true-spec : {M : Type 1} → statement M
+every-mark-true-spec =
+    tie.close
+    (tie.spec
+    Inv-loop
+    μ-loop
+    (λ c. (omega arith, every-start _ _))
+    (λ c κs. search needs)
+    (λ c κs. search needs)
+    (search needs)
+    (search needs)
+    more
+    (λ c. every-end _ _ (c .before .loop .inv .1) (end-cut _ _ _ (c .loop-test .left))))

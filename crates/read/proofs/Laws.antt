@@ -1,0 +1,7 @@
+-- What the proofs of the readings rest on.
+pub mod Found
+pub mod Used
+pub mod Marks
+pub mod Joined
+pub mod Held
+pub mod Final

@@ -1,0 +1,34 @@
+-- The block at a place that a search gave is what the search finds; at place 0 there is none.
+use mathlib.Core.Path.{_≡_, refl, sym, ap, _∙_}
+use mathlib.Core.Bool.{Bool}
+use mathlib.Core.Option.{none, some, Option·getD}
+use mathlib.Core.List.{List, []}
+use Prim.Native.Nat.{ℕ, zero, suc, _-_}
+use native.Mathlib.Omega.{arith}
+use lib.ListN.{getD}
+use Rattle.laws.specs.Tests.{is}
+use Rattle.laws.specs.Tests.Laws.{split, is-yes, is-no}
+use Rattle.laws.specs.Lists.{find, place}
+use Rattle.laws.specs.Lists.Laws.{has-no-find, place-none, place-find}
+use Rattle.paper.specs.Layout.{Block}
+use Rattle.paper.specs.Book.{numbered}
+
+numbered-some : (l : List Block) (k : ℕ) → (k ≡ 0 → ⊥) → numbered l k ≡ getD l (k - 1) []
+unfolding numbered
+numbered-some l zero n = absurd (n refl)
+numbered-some l (suc k) n = let z : suc k - 1 ≡ k = omega arith in rw z
+
+module _ (p : Block → Bool) (l : List Block) (t : ℕ) (e : t ≡ place p l) where
+  pub found-none : t ≡ 0 → find p l ≡ none
+  found-none z = has-no-find p l (place-none p l t e z)
+
+  pub found-some : (t ≡ 0 → ⊥) → find p l ≡ some (numbered l t)
+  found-some z = place-find p l t e [] z ∙ ap some (sym (numbered-some l t z))
+
+  pub found : {x : Block} → x ≡ numbered l t → x ≡ Option·getD (find p l) []
+  unfolding numbered
+  found {x} q =
+      split
+      (is t 0)
+      (λ h. let z : t ≡ 0 = is-yes _ _ h in q ∙ rw (z, found-none z))
+      (λ h. q ∙ rw (found-some (is-no _ _ h)))
