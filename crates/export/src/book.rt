@@ -21,7 +21,14 @@ pub extern "C" fn tetherbay_sound(book: &[u8]) -> bool
 }
 
 #[no_mangle]
-pub extern "C" fn tetherbay_open(book: &mut [u8], n: u8, lead: u16, day: &[u8], area: &[u8], receiver: &[u8]) -> u32
+pub extern "C" fn tetherbay_open(
+    book: &mut [u8],
+    n: u8,
+    lead: u16,
+    day: &[u8],
+    area: &[u8],
+    receiver: &[u8],
+) -> u32
     ensures { λ r. ⌜ (r ≡ openNumber (now (book .entry)) (record { n = n; lead = lead; day = now (day .entry); area = now (area .entry); receiver = now (receiver .entry) })) × (now (book .exit) ≡ opened (now (book .entry)) (record { n = n; lead = lead; day = now (day .entry); area = now (area .entry); receiver = now (receiver .entry) })) ⌝ }
 {
     opening::open(book, n, lead, day, area, receiver)
@@ -42,7 +49,12 @@ pub extern "C" fn tetherbay_mark(book: &[u8], sender: &[u8], id: &[u8]) -> MarkA
 }
 
 #[no_mangle]
-pub extern "C" fn tetherbay_final(book: &[u8], seller: &[u8], buyer: &[u8], position: usize) -> FinalAnswer
+pub extern "C" fn tetherbay_final(
+    book: &[u8],
+    seller: &[u8],
+    buyer: &[u8],
+    position: usize,
+) -> FinalAnswer
     ensures { λ r. ⌜ r ≡ final (now (book .entry)) (now (seller .entry)) (now (buyer .entry)) position ⌝ }
 {
     read::final_value(book, seller, buyer, Position(position))

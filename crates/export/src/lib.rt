@@ -8,6 +8,7 @@ ghost use Rattle.paper.specs.Ids.{idWellFormed};
 ghost use Rattle.paper.specs.Eic.{eicValid};
 ghost use Rattle.paper.specs.QuantityText.{quantityRead, quantityPrinted, printedInto};
 ghost use Rattle.paper.specs.Codes.{reasonCode};
+
 pub mod book;
 
 use paper::QuantityPrinted;

@@ -1,19 +1,19 @@
 -- What soundness says, as records: whoever needs a clause takes it here by name, and no other file counts the conjuncts of the definition.
-use mathlib.Core.Path.{_≡_, refl, sym, _∙_}
-use mathlib.Core.Bool.{Bool, true, false}
+use mathlib.Core.Path.{_≡_}
+use mathlib.Core.Bool.{true, false}
 use mathlib.Core.List.{List}
-use Prim.Native.Nat.{ℕ, _*_, _/_, _%_, _≤_, _<_}
+use Prim.Native.Nat.{ℕ, _*_, _/_, _%_, _≤_}
 use native.Mathlib.Nat.{div-add-mod'}
 use native.Mathlib.Omega.{arith}
 use lib.ListN.{length, drop}
 use lib.Seq.{length-take-le}
-use Rattle.laws.specs.Tests.{_and_, _or_, is}
+use Rattle.laws.specs.Tests.{_or_, is}
 use Rattle.laws.specs.Tests.Laws.{split, and-left, and-right, and-both, or-no, or-yes-left, or-yes-right, or-else, is-yes, is-equal, upto-yes, upto-true}
 use Rattle.laws.specs.Lists.{same, apart, All}
 use Rattle.laws.specs.Lists.Laws.{every-all, all-every, until-length}
 use Rattle.paper.specs.Check.{checkRight}
-use Rattle.paper.specs.Layout.{Bytes, Block, blocks, zeros, kind, nOf, lead, clock, dayOfBook, area, receiver, dayZeros, version, idOf, seriesCount, sender, dayOfMessage, senderZeros, businessType, contractType, sendersSlot, inArea, outArea, inParty, outParty, pair, agreement, state, first, partner}
-use Rattle.paper.specs.Ranges.{wholeBlocks, nAllowed, leadAllowed, clockAllowed, versionAllowed, countAllowed, quantityAllowed, netAllowed, entriesAllowed}
+use Rattle.paper.specs.Layout.{Bytes, Block, blocks, zeros, kind, nOf, lead, clock, dayOfBook, area, receiver, dayZeros, version, idOf, sender, dayOfMessage, senderZeros, businessType, contractType, sendersSlot, inArea, outArea, inParty, outParty, pair, agreement, state, first, partner}
+use Rattle.paper.specs.Ranges.{wholeBlocks, nAllowed, leadAllowed, clockAllowed, versionAllowed, quantityAllowed, netAllowed, entriesAllowed}
 use Rattle.paper.specs.Ids.{idWellFormed, dayWellFormed}
 use Rattle.paper.specs.Eic.{eicValid}
 use Rattle.paper.specs.Book.{dayBlock, slots, isFree, used, isSender, isSeries, numbered}

@@ -1,10 +1,10 @@
 // The records that set or show the buffer.
-use crate::input;
-use crate::line;
-use crate::parts::within;
 use block::check::check_bytes;
 use block::numbers::number_4;
 use field::part_of;
+use stream::input;
+use stream::line;
+use stream::parts::within;
 
 fn clear_from(buffer: &mut [u8], at: usize) {
     let mut i = at;

@@ -1,17 +1,10 @@
 // Replays a stream of calls on one book and answers each with a line; docs/REPLAY.md fixes both.
 mod buffer;
-mod day_calls;
-mod fields;
-mod input;
-mod leaf_calls;
-mod line;
-mod message_calls;
-mod parts;
-mod readings;
 
-use input::Head;
 use libc::STDOUT_FILENO;
-use parts::within;
+use stream::input;
+use stream::input::Head;
+use stream::parts::within;
 
 // What is kept from record to record, beside the bytes of the buffer: its length.
 pub struct State {
@@ -47,15 +40,15 @@ fn answer(tag: u8, book: &mut [u8], body: &mut [u8], line: &mut [u8]) -> bool {
         return buffer::show(tag, book, line);
     }
     if tag < 8 {
-        return day_calls::answer(tag, book, body, line);
+        return book_answers::day_calls::answer(tag, book, body, line);
     }
     if (tag == 12) | (tag == 13) {
-        return message_calls::answer(tag, body, line);
+        return book_answers::message_calls::answer(tag, body, line);
     }
     if tag < 16 {
-        return readings::answer(tag, book, body, line);
+        return book_answers::readings::answer(tag, book, body, line);
     }
-    leaf_calls::answer(tag, body, line)
+    leaf_answers::answer(tag, body, line)
 }
 
 fn set_length(length: usize, book: &mut [u8], body: &[u8], line: &mut [u8]) -> State {

@@ -20,6 +20,10 @@ countRight us b = cond (isSender b) (countSound us b) true
 unfoldable pub clashes : Block → Block → Bool
 clashes a b = sameSender a b or sameSeries a b
 
+-- what the used slots are to each other
+unfoldable pub linkedSound : List Block → Bool
+linkedSound us = apart clashes us and every (countRight us) us
+
 unfoldable pub eachUsed : Block → List Block → Bool
 eachUsed d us = every (usedSound d us) us and apart sameSender us and apart sameSeries us
 

@@ -1,13 +1,15 @@
 // "Sender EICs distinct", and "within a sender no series id twice and no (in party, out party) pair twice".
 ghost use mathlib.Core.Path.{_≡_};
 ghost use mathlib.Core.List.{[]};
-ghost use Prim.Native.Nat.{_+_, _/_, _<_};
+ghost use Prim.Native.Nat.{_+_, _/_, _<_, _≤_};
 ghost use lib.ListN.{length, drop, getD};
 ghost use Rattle.laws.specs.Tests.{neg};
 ghost use Rattle.laws.specs.Lists.{every, apart};
 ghost use Rattle.laws.specs.Cut.{cut};
 ghost use Rattle.paper.specs.Sound.{sameSender, sameSeries};
 ghost use Rattle.sound.specs.Used.{clashes};
+ghost use Rattle.sound.specs.Links.{Nexts, Tags};
+use super::links::wide;
 use field::same;
 use layout::id_of;
 use layout::pair;
@@ -38,30 +40,48 @@ fn clashes(a: &[u8], b: &[u8]) -> bool
     same_sender(a, b) | same_series(a, b)
 }
 
-// Block i clashes with none behind it.
-fn clear_of_later(us: &[u8], i: usize) -> bool
-    requires { ⌜ i < length (now us) / 512 ⌝ }
+// The tags tell most pairs apart.
+fn clash_at(us: &[u8], ids: &[u32; 1000], pairs: &[u32; 1000], i: usize, j: usize) -> bool
+    requires { ⌜ (length (now us) / 512 ≤ 1000) × Tags (cut 512 (now us)) (length (now us) / 512) (now ids) (now pairs) × (i < length (now us) / 512) × (j < length (now us) / 512) ⌝ }
+    ensures { λ r. ⌜ r ≡ clashes (getD (cut 512 (now (us .entry))) i []) (getD (cut 512 (now (us .entry))) j []) ⌝ }
+{
+    if ids[i] != ids[j] {
+        if pairs[i] != pairs[j] {
+            return false;
+        }
+    }
+    clashes(block_at(us, i), block_at(us, j))
+}
+
+// Block i clashes with none behind it: only those of its own group could.
+fn clear_of_later(
+    us: &[u8],
+    nexts: &[u16; 1000],
+    ids: &[u32; 1000],
+    pairs: &[u32; 1000],
+    i: usize,
+) -> bool
+    requires { ⌜ (length (now us) / 512 ≤ 1000) × Nexts (cut 512 (now us)) 0 (now nexts) × Tags (cut 512 (now us)) (length (now us) / 512) (now ids) (now pairs) × (i < length (now us) / 512) ⌝ }
     ensures { λ r. ⌜ r ≡ every (λ y. neg (clashes (getD (cut 512 (now (us .entry))) i []) y)) (drop (i + 1) (cut 512 (now (us .entry)))) ⌝ }
 {
-    let many = us.len() / 512;
-    let b = block_at(us, i);
     let mut ok = true;
-    let mut j = i + 1;
-    while j < many {
-        ok = ok & !clashes(b, block_at(us, j));
-        j += 1;
+    let mut at = i;
+    while nexts[at] != 0 {
+        at = wide(nexts[at]) - 1;
+        ok = ok & !clash_at(us, ids, pairs, i, at);
     }
     ok
 }
 
-pub fn blocks_apart(us: &[u8]) -> bool
+pub fn blocks_apart(us: &[u8], nexts: &[u16; 1000], ids: &[u32; 1000], pairs: &[u32; 1000]) -> bool
+    requires { ⌜ (length (now us) / 512 ≤ 1000) × Nexts (cut 512 (now us)) 0 (now nexts) × Tags (cut 512 (now us)) (length (now us) / 512) (now ids) (now pairs) ⌝ }
     ensures { λ r. ⌜ r ≡ apart clashes (cut 512 (now (us .entry))) ⌝ }
 {
     let many = us.len() / 512;
     let mut ok = true;
     let mut i = 0;
     while i < many {
-        ok = ok & clear_of_later(us, i);
+        ok = ok & clear_of_later(us, nexts, ids, pairs, i);
         i += 1;
     }
     ok

@@ -1,60 +1,57 @@
 // "Each sender's count equals its series".
 ghost use mathlib.Core.Path.{_≡_};
-ghost use mathlib.Core.Bool.{true, cond};
+ghost use mathlib.Core.Bool.{true};
 ghost use mathlib.Core.List.{[]};
 ghost use Prim.Native.Nat.{_/_, _<_, _≤_};
 ghost use lib.ListN.{length, getD};
 ghost use Rattle.laws.specs.Lists.{every, apart, count};
 ghost use Rattle.laws.specs.Cut.{cut};
-ghost use Rattle.paper.specs.Book.{isSeriesOf};
 ghost use Rattle.sound.specs.Used.{clashes, countRight};
+ghost use Rattle.sound.specs.Links.{inGroup, Heads, Nexts};
+use super::links::wide;
 use super::ranges::count_allowed;
 use layout::series_count;
-use paper::Slot;
 use slots::block_at;
 use slots::is_sender;
-use slots::is_series_of;
 
-fn one_if(b: bool) -> usize
-    ensures { λ r. ⌜ (r ≡ cond b 1 0) × (r ≤ 1) ⌝ }
+// How many blocks are in a group.
+fn count_of(us: &[u8], heads: &[u16; 1001], nexts: &[u16; 1000], g: usize) -> usize
+    requires { ⌜ (length (now us) / 512 ≤ 1000) × Heads (cut 512 (now us)) 0 (now heads) × Nexts (cut 512 (now us)) 0 (now nexts) × (g < 1001) ⌝ }
+    ensures { λ r. ⌜ r ≡ count (inGroup g) (cut 512 (now (us .entry))) ⌝ }
 {
-    if b { 1 } else { 0 }
-}
-
-fn count_of(us: &[u8], slot: Slot) -> usize
-    ensures { λ r. ⌜ r ≡ count (isSeriesOf (slot .0)) (cut 512 (now (us .entry))) ⌝ }
-{
-    let many = us.len() / 512;
-    let mut n: usize = 0;
-    let mut i = 0;
-    while i < many {
-        n += one_if(is_series_of(block_at(us, i), Slot(slot.0)));
-        i += 1;
+    if heads[g] == 0 {
+        return 0;
+    }
+    let mut n: usize = 1;
+    let mut at = wide(heads[g]) - 1;
+    while nexts[at] != 0 {
+        at = wide(nexts[at]) - 1;
+        n += 1;
     }
     n
 }
 
 // Of the block at i, whose slot is i + 1.
-fn count_right(us: &[u8], i: usize) -> bool
-    requires { ⌜ (i < length (now us) / 512) × (apart clashes (cut 512 (now us)) ≡ true) ⌝ }
+fn count_right(us: &[u8], heads: &[u16; 1001], nexts: &[u16; 1000], i: usize) -> bool
+    requires { ⌜ (length (now us) / 512 ≤ 1000) × Heads (cut 512 (now us)) 0 (now heads) × Nexts (cut 512 (now us)) 0 (now nexts) × (i < length (now us) / 512) × (apart clashes (cut 512 (now us)) ≡ true) ⌝ }
     ensures { λ r. ⌜ r ≡ countRight (cut 512 (now (us .entry))) (getD (cut 512 (now (us .entry))) i []) ⌝ }
 {
     let b = block_at(us, i);
     if !is_sender(b) {
         return true;
     }
-    count_allowed(series_count(b)) & (series_count(b) as usize == count_of(us, Slot(i + 1)))
+    count_allowed(series_count(b)) & (series_count(b) as usize == count_of(us, heads, nexts, i + 1))
 }
 
-pub fn counts_right(us: &[u8]) -> bool
-    requires { ⌜ apart clashes (cut 512 (now us)) ≡ true ⌝ }
+pub fn counts_right(us: &[u8], heads: &[u16; 1001], nexts: &[u16; 1000]) -> bool
+    requires { ⌜ (length (now us) / 512 ≤ 1000) × Heads (cut 512 (now us)) 0 (now heads) × Nexts (cut 512 (now us)) 0 (now nexts) × (apart clashes (cut 512 (now us)) ≡ true) ⌝ }
     ensures { λ r. ⌜ r ≡ every (countRight (cut 512 (now (us .entry)))) (cut 512 (now (us .entry))) ⌝ }
 {
     let many = us.len() / 512;
     let mut ok = true;
     let mut i = 0;
     while i < many {
-        ok = ok & count_right(us, i);
+        ok = ok & count_right(us, heads, nexts, i);
         i += 1;
     }
     ok

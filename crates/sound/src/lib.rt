@@ -1,17 +1,19 @@
 // A sound book: document 01's paragraph, clause by clause.
 ghost use mathlib.Core.Path.{_≡_};
-ghost use Prim.Native.Nat.{_≤_, _%_};
+ghost use Prim.Native.Nat.{_/_, _%_, _≤_};
 ghost use lib.ListN.{length};
 ghost use Rattle.laws.specs.Lists.{every};
 ghost use Rattle.laws.specs.Cut.{cut};
 ghost use Rattle.paper.specs.Layout.{nOf};
 ghost use Rattle.paper.specs.Sound.{sound};
 ghost use Rattle.eic.specs.Table.{IsTable};
-ghost use Rattle.sound.specs.Used.{usedFields, eachUsed, slotsSound};
+ghost use Rattle.sound.specs.Used.{usedFields, linkedSound, eachUsed, slotsSound};
+ghost use Rattle.sound.specs.Links.{Grouped};
 
 mod apart;
 mod counts;
 pub mod day;
+mod links;
 pub mod ranges;
 mod sender;
 pub mod series;
@@ -23,6 +25,11 @@ use day::day_sound;
 use eic::values;
 use field::all_zero;
 use field::part_of;
+use links::link;
+use links::no_heads;
+use links::no_nexts;
+use links::no_tags;
+use links::tag;
 use ranges::whole_blocks;
 use sender::sender_day;
 use sender::sender_fields;
@@ -56,23 +63,36 @@ fn all_fields(table: &[u8; 256], d: &[u8], us: &[u8]) -> bool
     ok
 }
 
-// The counts come last: where no two senders share an EIC, a sender's slot is known without a search.
+// What the used slots are to each other. The counts come last: where no two senders share an EIC, a sender's slot is known without a search.
+fn linked_sound(us: &[u8]) -> bool
+    requires { ⌜ (length (now us) / 512 ≤ 1000) × Grouped (cut 512 (now us)) ⌝ }
+    ensures { λ r. ⌜ r ≡ linkedSound (cut 512 (now (us .entry))) ⌝ }
+{
+    let mut heads = no_heads();
+    let mut nexts = no_nexts();
+    link(us, &mut heads, &mut nexts);
+    let mut ids = no_tags();
+    let mut pairs = no_tags();
+    tag(us, &mut ids, &mut pairs);
+    if !blocks_apart(us, &nexts, &ids, &pairs) {
+        return false;
+    }
+    counts_right(us, &heads, &nexts)
+}
+
 fn each_used(table: &[u8; 256], d: &[u8], us: &[u8]) -> bool
-    requires { ⌜ IsTable (now table) × (nOf (now d) ≤ 100) ⌝ }
+    requires { ⌜ IsTable (now table) × (nOf (now d) ≤ 100) × (length (now us) / 512 ≤ 1000) ⌝ }
     ensures { λ r. ⌜ r ≡ eachUsed (now (d .entry)) (cut 512 (now (us .entry))) ⌝ }
 {
     if !all_fields(table, d, us) {
         return false;
     }
-    if !blocks_apart(us) {
-        return false;
-    }
-    counts_right(us)
+    linked_sound(us)
 }
 
 // "Used slots first, free ones after": behind the used slots all bytes are 0.
 fn slots_sound(table: &[u8; 256], d: &[u8], s: &[u8]) -> bool
-    requires { ⌜ IsTable (now table) × (nOf (now d) ≤ 100) × (length (now s) % 512 ≡ 0) ⌝ }
+    requires { ⌜ IsTable (now table) × (nOf (now d) ≤ 100) × (length (now s) % 512 ≡ 0) × (length (now s) / 512 ≤ 1000) ⌝ }
     ensures { λ r. ⌜ r ≡ slotsSound (now (d .entry)) (cut 512 (now (s .entry))) ⌝ }
 {
     let end = 512 * used_count(s);

@@ -1,7 +1,8 @@
--- The three stages are the definition's clauses, the counts put last.
+-- The two stages are the definition's clauses, the counts put last.
 use Rattle.laws.specs.Kit.{needs, told, denied}
 use Rattle.laws.specs.Tests.{_and_}
-use Rattle.sound.proofs.Laws.{each-used}
+use Rattle.sound.proofs.Laws.Used.{each-used}
+use Rattle.sound.proofs.Laws.Groups.{fields-grouped}
 use Rattle.sound.proofs.each_used.Statement.{statement}
 use Rattle.sound.proofs.each_used.Tie as tie
 
@@ -9,20 +10,16 @@ returns : tie.Need-returns
 unfolding _and_
 returns c = rw (each-used, denied (c .before .all-fields .ensures) (c .if1 .taken))
 
+linked-sound-requires : tie.Need-linked-sound-requires
+linked-sound-requires c κs =
+    let p = c .before .before .before .before .pre in
+    (p .2, fields-grouped _ _ (p .2) (told (c .before .all-fields .ensures) (c .if1 .left)))
+
 returns-2 : tie.Need-returns-2
 unfolding _and_
 returns-2 c =
-    let f = c .before .before in
-    rw (each-used, told (f .before .all-fields .ensures) (f .if1 .left), denied (c .before .blocks-apart .ensures) (c .if2 .taken))
-
-returns-3 : tie.Need-returns-3
-unfolding _and_
-returns-3 c =
-    let a = c .before in
-    let f = a .before .before in
-    rw (each-used, told (f .before .all-fields .ensures) (f .if1 .left), told (a .before .blocks-apart .ensures) (a .if2 .left)) (c .counts-right .ensures)
+    let f = c .before in
+    rw (each-used, told (f .before .all-fields .ensures) (f .if1 .left)) (c .linked-sound .ensures)
 
 pub each-used-spec : {M : Type 1} → statement M
-each-used-spec =
-    tie.close
-    (tie.spec (λ c κs. search needs) returns (λ c κs. search needs) returns-2 (λ c κs. told (c .before .blocks-apart .ensures) (c .if2 .left)) returns-3)
+each-used-spec = tie.close (tie.spec (λ c κs. search needs) returns linked-sound-requires returns-2)

@@ -2,7 +2,7 @@
 use Rattle.laws.specs.Kit.{needs, arith, told, denied}
 use Rattle.laws.specs.Tests.{_and_}
 use Rattle.facts.specs.Sound.{day-n}
-use Rattle.sound.proofs.Laws.{sound-split, day-inside, slots-whole}
+use Rattle.sound.proofs.Laws.Book.{sound-split, day-inside, slots-whole, slots-few}
 use Rattle.sound.proofs.sound.Statement.{statement}
 use Rattle.sound.proofs.sound.Tie as tie
 
@@ -38,7 +38,8 @@ slots-sound-requires : tie.Need-slots-sound-requires
 slots-sound-requires c κs =
     let d = c .before .before in
     let w = d .before .before .before .before .before .before .before in
-    (search needs, day-n _ (told (d .before .day-sound .ensures) (d .if3 .left)), slots-whole _ (told (w .before .whole-blocks .ensures) (w .if1 .left)))
+    let b = told (w .before .whole-blocks .ensures) (w .if1 .left) in
+    (search needs, day-n _ (told (d .before .day-sound .ensures) (d .if3 .left)), slots-whole _ b, slots-few _ b)
 
 returns-4 : tie.Need-returns-4
 unfolding _and_

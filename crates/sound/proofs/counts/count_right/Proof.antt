@@ -1,7 +1,7 @@
 -- Where no two senders share an EIC, the sender's slot is where it stands, so its count is held to the series of that slot.
 use Rattle.laws.specs.Kit.{needs, sym, told, denied}
 use Rattle.laws.specs.Tests.{_and_, is}
-use Rattle.sound.proofs.Laws.{own-count, no-count}
+use Rattle.sound.proofs.Laws.Used.{own-count, no-count}
 use Rattle.sound.proofs.counts.count_right.Statement.{statement}
 use Rattle.sound.proofs.counts.count_right.Tie as tie
 
@@ -15,9 +15,8 @@ unfolding _and_ is
 returns-2 c =
     let t = c .before .before .before .before in
     let e = t .before in
-    let b = e .before .block-at .ensures in
     let p = e .before .before .before .pre in
-    rw (own-count _ _ (p .0) (p .1) (rw b at (told (e .is-sender .ensures) (t .if1 .left)))) (cc)
+    rw (own-count _ _ (p .3) (p .4) (rw (e .before .block-at .ensures) at (told (e .is-sender .ensures) (t .if1 .left)))) (cc)
 
 pub count-right-spec : {M : Type 1} → statement M
 count-right-spec =

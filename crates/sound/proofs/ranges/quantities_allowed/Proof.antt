@@ -2,7 +2,7 @@
 use Rattle.laws.specs.Kit.{needs, arith, _≡_, _≤_, _-_, at-end}
 use Rattle.laws.specs.Tests.{_and_, below}
 use Rattle.laws.specs.Tests.Laws.{below-more}
-use Rattle.paper.specs.Layout.{zeros, aboveN, quantity}
+use Rattle.paper.specs.Layout.{quantity}
 use Rattle.paper.specs.Ranges.{quantityAllowed, entriesAllowed}
 use Rattle.sound.proofs.ranges.quantities_allowed.Statement.{statement}
 use Rattle.sound.proofs.ranges.quantities_allowed.Tie as tie

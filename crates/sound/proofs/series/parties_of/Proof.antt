@@ -1,10 +1,19 @@
 -- The two parts are the parties, and the tests are the definition's.
-use Rattle.laws.specs.Kit.{needs}
+use Rattle.laws.specs.Kit.{needs, arith, _≡_, refl, length, take, drop}
 use Rattle.laws.specs.Tests.{_and_, _or_, neg}
-use Rattle.sound.proofs.Laws.{one-party, other-party}
+use Rattle.laws.specs.Bytes.{part}
+use Rattle.laws.specs.Bytes.Laws.{part-rest}
+use Rattle.paper.specs.Layout.{Bytes}
 use Rattle.paper.specs.Sound.{partiesOf}
 use Rattle.sound.proofs.series.parties_of.Statement.{statement}
 use Rattle.sound.proofs.series.parties_of.Tie as tie
+
+one-party : (p : Bytes) → part 0 16 p ≡ take 16 p
+unfolding part
+one-party p = refl
+
+other-party : (p : Bytes) → part 16 (length p) p ≡ drop 16 p
+other-party p = part-rest 16 (length p) p (omega arith)
 
 returns : tie.Need-returns
 unfolding partiesOf _and_ _or_ neg

@@ -1,0 +1,5 @@
+pub mod Laws
+pub mod Walk
+pub mod Parts
+pub mod Judged
+pub mod Whole

@@ -1,0 +1,14 @@
+-- The branch is the definition's.
+use Rattle.laws.specs.Kit.{needs}
+use Rattle.paper.specs.Rules.{broken}
+use Rattle.judge.proofs.order.broken.Statement.{statement}
+use Rattle.judge.proofs.order.broken.Tie as tie
+
+pub broken-spec : {M : Type 1} → statement M
+unfolding broken
+broken-spec =
+    tie.close
+    (tie.spec
+    (λ c. rw (c .if1 .taken))
+    (search needs)
+    (λ c. rw (c .before .if1 .left) (c .fine .ensures)))

@@ -1,0 +1,37 @@
+// Verdicts in order: the first refusal wins.
+ghost use mathlib.Core.Path.{_≡_};
+ghost use Rattle.paper.specs.Rules.{fine, broken, _then_};
+use paper::Position;
+use paper::Verdict;
+
+pub fn fine() -> Verdict
+    ensures { λ r. ⌜ r ≡ fine ⌝ }
+{
+    Verdict {
+        number: 0,
+        series: 0,
+        position: Position(0),
+    }
+}
+
+pub fn broken(test: bool, number: u32, series: usize, position: usize) -> Verdict
+    ensures { λ r. ⌜ r ≡ broken test number series position ⌝ }
+{
+    if test {
+        return Verdict {
+            number,
+            series,
+            position: Position(position),
+        };
+    }
+    fine()
+}
+
+pub fn then(v: Verdict, w: Verdict) -> Verdict
+    ensures { λ r. ⌜ r ≡ (v then w) ⌝ }
+{
+    if v.number == 0 {
+        return w;
+    }
+    v
+}

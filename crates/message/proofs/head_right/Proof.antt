@@ -1,0 +1,17 @@
+-- The three tests are joined as the definition joins them.
+use Rattle.laws.specs.Kit.{needs}
+use Rattle.laws.specs.Tests.{_and_, is}
+use Rattle.paper.specs.Message.{headRight}
+use Rattle.message.proofs.head_right.Statement.{statement}
+use Rattle.message.proofs.head_right.Tie as tie
+
+pub head-right-spec : {M : Type 1} → statement M
+unfolding headRight _and_ is
+head-right-spec =
+    tie.close
+    (tie.spec
+    (search needs)
+    (search needs)
+    (search needs)
+    (search needs)
+    (λ c. cc))

@@ -1,0 +1,17 @@
+-- The three tests are joined as the definition joins them.
+use Rattle.laws.specs.Kit.{needs}
+use Rattle.laws.specs.Tests.{_or_, is, neg}
+use Rattle.paper.specs.Rules.{rule10}
+use Rattle.rules.proofs.form.rule_10.Statement.{statement}
+use Rattle.rules.proofs.form.rule_10.Tie as tie
+
+pub rule-10-spec : {M : Type 1} → statement M
+unfolding rule10 _or_ neg is
+rule-10-spec =
+    tie.close
+    (tie.spec
+    (search needs)
+    (search needs)
+    (search needs)
+    (search needs)
+    (λ c. cc))

@@ -1,0 +1,19 @@
+-- The two tests are joined as the definition joins them.
+use Rattle.laws.specs.Kit.{needs}
+use Rattle.laws.specs.Tests.{_or_, neg}
+use Rattle.paper.specs.Rules.{rule9}
+use Rattle.rules.proofs.form.rule_9.Statement.{statement}
+use Rattle.rules.proofs.form.rule_9.Tie as tie
+
+pub rule-9-spec : {M : Type 1} → statement M
+unfolding rule9 _or_ neg
+rule-9-spec =
+    tie.close
+    (tie.spec
+    (search needs)
+    (search needs)
+    (search needs)
+    (search needs)
+    (search needs)
+    (search needs)
+    (λ c. cc))

@@ -1,0 +1,25 @@
+-- Where the stored block is a sender's, its id and its version are asked for; where it is none, version 1.
+use Rattle.laws.specs.Kit.{_∙_, needs, sym}
+use Rattle.laws.specs.Tests.{_or_, is, less, neg}
+use Rattle.paper.specs.Rules.{versionBroken}
+use Rattle.rules.proofs.head.version_broken.Statement.{statement}
+use Rattle.rules.proofs.head.version_broken.Tie as tie
+
+pub version-broken-spec : {M : Type 1} → statement M
+unfolding versionBroken _or_ neg is less
+version-broken-spec =
+    tie.close
+    (tie.spec
+    (search needs)
+    (search needs)
+    (search needs)
+    (search needs)
+    (search needs)
+    (search needs)
+    (search needs)
+    (search needs)
+    (search needs)
+    (search needs)
+    (λ c. let k = c .before .before .before .before .before .before in rw (sym (k .before .is-sender .ensures) ∙ k .if1 .taken) (cc))
+    (search needs)
+    (λ c. rw (sym (c .before .before .is-sender .ensures) ∙ c .before .if1 .left) (cc)))

@@ -1,0 +1,14 @@
+-- The code is the definition.
+use Rattle.laws.specs.Kit.{needs}
+use Rattle.laws.specs.Tests.{_and_, less}
+use Rattle.paper.specs.Rules.{rule12}
+use Rattle.rules.proofs.values.rule_12.Statement.{statement}
+use Rattle.rules.proofs.values.rule_12.Tie as tie
+
+pub rule-12-spec : {M : Type 1} → statement M
+unfolding rule12 _and_ less
+rule-12-spec =
+    tie.close
+    (tie.spec
+    (search needs)
+    (λ c. cc))

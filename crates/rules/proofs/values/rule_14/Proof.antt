@@ -1,0 +1,16 @@
+-- Both tests are the definition's.
+use Rattle.laws.specs.Kit.{needs}
+use Rattle.laws.specs.Tests.{_and_, is, neg}
+use Rattle.paper.specs.Rules.{rule14}
+use Rattle.rules.proofs.values.rule_14.Statement.{statement}
+use Rattle.rules.proofs.values.rule_14.Tie as tie
+
+pub rule-14-spec : {M : Type 1} → statement M
+unfolding rule14 _and_ neg is
+rule-14-spec =
+    tie.close
+    (tie.spec
+    (search needs)
+    (search needs)
+    (search needs)
+    (λ c. cc))

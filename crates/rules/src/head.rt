@@ -1,0 +1,53 @@
+// Rules 3 to 6: the message's first block beside the day block, and beside the sender's stored block.
+ghost use mathlib.Core.Path.{_≡_};
+ghost use mathlib.Core.List.{[], _∷_};
+ghost use Rattle.paper.specs.Rules.{rule3, rule4, rule5, rule6, versionBroken};
+ghost use Rattle.eic.specs.Table.{IsTable};
+use eic::eic_valid_with;
+use field::id_well_formed;
+use field::same;
+use layout::day_of_book;
+use layout::day_of_message;
+use layout::id_of;
+use layout::n_of;
+use layout::receiver;
+use layout::sender;
+use layout::version;
+use slots::is_sender;
+
+pub fn rule_3(d: &[u8], h: &[u8]) -> bool
+    ensures { λ r. ⌜ r ≡ rule3 (now (d .entry)) (now (h .entry)) ⌝ }
+{
+    !same(receiver(h), receiver(d))
+}
+
+pub fn rule_4(table: &[u8; 256], h: &[u8]) -> bool
+    requires { ⌜ IsTable (now table) ⌝ }
+    ensures { λ r. ⌜ r ≡ rule4 (now (h .entry)) ⌝ }
+{
+    !eic_valid_with(table, sender(h))
+}
+
+pub fn rule_5(d: &[u8], h: &[u8]) -> bool
+    ensures { λ r. ⌜ r ≡ rule5 (now (d .entry)) (now (h .entry)) ⌝ }
+{
+    !same(day_of_message(h), day_of_book(d)) | !(n_of(h) == n_of(d))
+}
+
+// One more than the largest version of two bytes fits in four.
+fn version_broken(stored: &[u8], h: &[u8]) -> bool
+    ensures { λ r. ⌜ r ≡ versionBroken (now (stored .entry)) (now (h .entry)) ⌝ }
+{
+    if is_sender(stored) {
+        return !same(id_of(h), id_of(stored))
+            | !(version(h) as u32 == version(stored) as u32 + 1)
+            | (999 < version(h));
+    }
+    !(version(h) == 1)
+}
+
+pub fn rule_6(stored: &[u8], h: &[u8]) -> bool
+    ensures { λ r. ⌜ r ≡ rule6 (now (stored .entry) ∷ []) (now (h .entry)) ⌝ }
+{
+    !id_well_formed(id_of(h)) | version_broken(stored, h)
+}

@@ -1,0 +1,62 @@
+// Rules 11 to 15: the hundred positions of a series, each counted from 0 as k, and its version. n is the day's.
+ghost use mathlib.Core.Path.{_≡_};
+ghost use Prim.Native.Nat.{_+_, _<_};
+ghost use Rattle.paper.specs.Rules.{rule11, rule12, rule13, closed, rule14, seriesVersion, rule15};
+use field::same;
+use layout::clock;
+use layout::lead;
+use layout::quantities;
+use layout::quantity;
+use layout::version;
+use slots::is_series;
+
+pub fn rule_11(n: usize, y: &[u8], k: usize) -> bool
+    requires { ⌜ k < 100 ⌝ }
+    ensures { λ r. ⌜ r ≡ rule11 n (now (y .entry)) k ⌝ }
+{
+    (k < n) & (2147483648 <= quantity(y, k))
+}
+
+pub fn rule_12(n: usize, y: &[u8], k: usize) -> bool
+    requires { ⌜ k < 100 ⌝ }
+    ensures { λ r. ⌜ r ≡ rule12 n (now (y .entry)) k ⌝ }
+{
+    (k < n) & (9999999 < quantity(y, k))
+}
+
+pub fn rule_13(n: usize, y: &[u8], k: usize) -> bool
+    requires { ⌜ k < 100 ⌝ }
+    ensures { λ r. ⌜ r ≡ rule13 n (now (y .entry)) k ⌝ }
+{
+    (n <= k) & !(quantity(y, k) == 0)
+}
+
+// Position k + 1. Clock and lead together need more than the two bytes that each has.
+pub fn closed(d: &[u8], k: usize) -> bool
+    requires { ⌜ k < 100 ⌝ }
+    ensures { λ r. ⌜ r ≡ closed (now (d .entry)) (k + 1) ⌝ }
+{
+    !(clock(d).0 as usize + lead(d) as usize <= 15 * k + 10080)
+}
+
+pub fn rule_14(d: &[u8], x: &[u8], y: &[u8], k: usize) -> bool
+    requires { ⌜ k < 100 ⌝ }
+    ensures { λ r. ⌜ r ≡ rule14 (now (d .entry)) (now (x .entry)) (now (y .entry)) k ⌝ }
+{
+    closed(d, k) & !(quantity(y, k) == quantity(x, k))
+}
+
+pub fn series_version(x: &[u8], h: &[u8], y: &[u8]) -> u16
+    ensures { λ r. ⌜ r ≡ seriesVersion (now (x .entry)) (now (h .entry)) (now (y .entry)) ⌝ }
+{
+    if !is_series(x) | !same(quantities(x), quantities(y)) {
+        return version(h);
+    }
+    version(x)
+}
+
+pub fn rule_15(x: &[u8], h: &[u8], y: &[u8]) -> bool
+    ensures { λ r. ⌜ r ≡ rule15 (now (x .entry)) (now (h .entry)) (now (y .entry)) ⌝ }
+{
+    !(version(y) == series_version(x, h, y))
+}

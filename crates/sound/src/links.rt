@@ -1,0 +1,103 @@
+// The used slots in groups: the series of each sender, and the senders. Each block is linked to the next of its group, so that what is asked
+// of the pairs within a group, or of a group's number, is found without a look at any other block.
+ghost use mathlib.Core.Path.{_≡_};
+ghost use mathlib.Core.Bool.{true};
+ghost use mathlib.Core.List.{[]};
+ghost use Prim.Native.Nat.{_/_, _≤_, _<_};
+ghost use lib.ListN.{length, getD};
+ghost use Rattle.laws.specs.Cut.{cut};
+ghost use Rattle.paper.specs.Layout.{zeros};
+ghost use Rattle.sound.specs.Links.{group, Grouped, Heads, Nexts, idTag, pairTag, Tags};
+use block::check::check_bytes;
+use layout::id_of;
+use layout::pair;
+use layout::sender;
+use layout::senders_slot;
+use slots::block_at;
+use slots::is_series;
+
+// The group of the block at i.
+fn group_at(us: &[u8], i: usize) -> usize
+    requires { ⌜ Grouped (cut 512 (now us)) × (i < length (now us) / 512) ⌝ }
+    ensures { λ r. ⌜ (r ≡ group (getD (cut 512 (now (us .entry))) i [])) × (r < 1001) ⌝ }
+{
+    let b = block_at(us, i);
+    if is_series(b) {
+        return senders_slot(b).0;
+    }
+    0
+}
+
+// No group has a first block.
+pub fn no_heads() -> [u16; 1001]
+    ensures { λ r. ⌜ (zeros r ≡ true) × (length r ≡ 1001) ⌝ }
+{
+    [0; 1001]
+}
+
+// No block has a next one.
+pub fn no_nexts() -> [u16; 1000]
+    ensures { λ r. ⌜ length r ≡ 1000 ⌝ }
+{
+    [0; 1000]
+}
+
+pub fn no_tags() -> [u32; 1000]
+    ensures { λ r. ⌜ length r ≡ 1000 ⌝ }
+{
+    [0; 1000]
+}
+
+// A place in the width of an index.
+pub fn wide(place: u16) -> usize
+    ensures { λ r. ⌜ r ≡ place ⌝ }
+{
+    place as usize
+}
+
+// From the last block back: what was the group's first block is now its second.
+pub fn link(us: &[u8], heads: &mut [u16; 1001], nexts: &mut [u16; 1000])
+    requires { ⌜ (length (now us) / 512 ≤ 1000) × Grouped (cut 512 (now us)) × (zeros (now heads) ≡ true) × (length (now heads) ≡ 1001) × (length (now nexts) ≡ 1000) ⌝ }
+    ensures { λ _. ⌜ Heads (cut 512 (now (us .entry))) 0 (now (heads .exit)) × Nexts (cut 512 (now (us .entry))) 0 (now (nexts .exit)) ⌝ }
+{
+    let mut i = us.len() / 512;
+    while 0 < i {
+        let g = group_at(us, i - 1);
+        nexts[i - 1] = heads[g];
+        heads[g] = i as u16;
+        i -= 1;
+    }
+}
+
+fn id_tag(b: &[u8]) -> u32
+    ensures { λ r. ⌜ r ≡ idTag (now (b .entry)) ⌝ }
+{
+    if is_series(b) {
+        return check_bytes(id_of(b));
+    }
+    check_bytes(sender(b))
+}
+
+fn pair_tag(b: &[u8]) -> u32
+    ensures { λ r. ⌜ r ≡ pairTag (now (b .entry)) ⌝ }
+{
+    if is_series(b) {
+        return check_bytes(pair(b));
+    }
+    check_bytes(sender(b))
+}
+
+// Two blocks are compared byte by byte only where their tags agree.
+pub fn tag(us: &[u8], ids: &mut [u32; 1000], pairs: &mut [u32; 1000])
+    requires { ⌜ (length (now us) / 512 ≤ 1000) × (length (now ids) ≡ 1000) × (length (now pairs) ≡ 1000) ⌝ }
+    ensures { λ _. ⌜ Tags (cut 512 (now (us .entry))) (length (now (us .entry)) / 512) (now (ids .exit)) (now (pairs .exit)) ⌝ }
+{
+    let many = us.len() / 512;
+    let mut i = 0;
+    while i < many {
+        let b = block_at(us, i);
+        ids[i] = id_tag(b);
+        pairs[i] = pair_tag(b);
+        i += 1;
+    }
+}
