@@ -3,6 +3,7 @@ use block::numbers::byte_or_zero;
 use block::numbers::number_2;
 use paper::DayState;
 use paper::Minute;
+use paper::Verdict;
 use stream::fields::name;
 use stream::fields::name_end;
 use stream::line;
@@ -44,8 +45,17 @@ fn clock(book: &mut [u8], body: &[u8], line: &mut [u8]) {
     show_clock(answer.number, answer.state, line);
 }
 
-fn submit(_book: &mut [u8], _message: &[u8], line: &mut [u8]) {
-    line::absent(line, b"submit");
+fn show_verdict(verdict: Verdict, line: &mut [u8]) {
+    let at = line::text(line, 0, b"submit");
+    let at = line::number(line, at, verdict.number as u64);
+    let at = line::number(line, at, codes::reason_code(verdict.number) as u64);
+    let at = line::number(line, at, verdict.series as u64);
+    let at = line::number(line, at, verdict.position.0 as u64);
+    line::end(line, at);
+}
+
+fn submit(book: &mut [u8], message: &[u8], line: &mut [u8]) {
+    show_verdict(submit::submit(book, message), line);
 }
 
 pub fn answer(tag: u8, book: &mut [u8], body: &[u8], line: &mut [u8]) -> bool {

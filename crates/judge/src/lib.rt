@@ -36,6 +36,7 @@ use slots::slot_of;
 use slots::used_count;
 use sound::sound;
 
+// Rules 3 to 6 cost little beside the series: all four are judged, and the first broken one is named.
 fn head_verdict(table: &[u8; 256], d: &[u8], stored: &[u8], h: &[u8]) -> Verdict
     requires { ⌜ IsTable (now table) ⌝ }
     ensures { λ r. ⌜ r ≡ (broken (rule3 (now (d .entry)) (now (h .entry))) 3 0 0 then broken (rule4 (now (h .entry))) 4 0 0 then broken (rule5 (now (d .entry)) (now (h .entry))) 5 0 0 then broken (rule6 (now (stored .entry) ∷ []) (now (h .entry))) 6 0 0) ⌝ }

@@ -4,6 +4,7 @@ ghost use Rattle.paper.specs.Rules.{fine, broken, _then_};
 use paper::Position;
 use paper::Verdict;
 
+// No rule is broken: number, series and position are 0.
 pub fn fine() -> Verdict
     ensures { λ r. ⌜ r ≡ fine ⌝ }
 {
@@ -14,6 +15,7 @@ pub fn fine() -> Verdict
     }
 }
 
+// Series and position are 0 for a rule that has none.
 pub fn broken(test: bool, number: u32, series: usize, position: usize) -> Verdict
     ensures { λ r. ⌜ r ≡ broken test number series position ⌝ }
 {
@@ -27,6 +29,7 @@ pub fn broken(test: bool, number: u32, series: usize, position: usize) -> Verdic
     fine()
 }
 
+// The second verdict counts only where the first is no refusal.
 pub fn then(v: Verdict, w: Verdict) -> Verdict
     ensures { λ r. ⌜ r ≡ (v then w) ⌝ }
 {

@@ -9,6 +9,7 @@ use paper::Slot;
 use slots::block_at;
 use slots::is_series_of;
 
+// A sender with no series leaves nothing.
 fn from_first(us: &[u8], slot: Slot) -> &[u8]
     ensures { λ r. ⌜ keep (isSeriesOf (slot .0)) (cut 512 (now r)) ≡ keep (isSeriesOf (slot .0)) (cut 512 (now (us .entry))) ⌝ }
 {
@@ -23,6 +24,7 @@ fn from_first(us: &[u8], slot: Slot) -> &[u8]
     part_of(us, 512 * i, us.len())
 }
 
+// From the end, so that series of others behind the last are passed over once.
 fn upto_last(us: &[u8], slot: Slot) -> &[u8]
     ensures { λ r. ⌜ keep (isSeriesOf (slot .0)) (cut 512 (now r)) ≡ keep (isSeriesOf (slot .0)) (cut 512 (now (us .entry))) ⌝ }
 {
@@ -36,6 +38,7 @@ fn upto_last(us: &[u8], slot: Slot) -> &[u8]
     part_of(us, 0, 512 * k)
 }
 
+// What is cut off holds no series of the sender, so that every rule finds the same among what is left.
 pub fn own_part(us: &[u8], slot: Slot) -> &[u8]
     ensures { λ r. ⌜ keep (isSeriesOf (slot .0)) (cut 512 (now r)) ≡ keep (isSeriesOf (slot .0)) (cut 512 (now (us .entry))) ⌝ }
 {

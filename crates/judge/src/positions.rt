@@ -12,6 +12,7 @@ use rules::values::rule_12;
 use rules::values::rule_13;
 use rules::values::rule_14;
 
+// Position k + 1: of rules 11 and 12 the first that is broken, above n rule 13.
 fn quantity_at(n: usize, s: usize, y: &[u8], k: usize) -> Verdict
     requires { ⌜ k < 100 ⌝ }
     ensures { λ r. ⌜ r ≡ quantityVerdict n s (now (y .entry)) k ⌝ }
@@ -22,6 +23,7 @@ fn quantity_at(n: usize, s: usize, y: &[u8], k: usize) -> Verdict
     then(r11, then(r12, r13))
 }
 
+// All hundred, since rule 13 is about the positions above n.
 pub fn quantity_verdict(n: usize, s: usize, y: &[u8]) -> Verdict
     ensures { λ r. ⌜ r ≡ overPositions (quantityVerdict n s (now (y .entry))) ⌝ }
 {
@@ -36,6 +38,7 @@ pub fn quantity_verdict(n: usize, s: usize, y: &[u8]) -> Verdict
     fine()
 }
 
+// Position k + 1.
 fn closed_at(d: &[u8], x: &[u8], s: usize, y: &[u8], k: usize) -> Verdict
     requires { ⌜ k < 100 ⌝ }
     ensures { λ r. ⌜ r ≡ closedVerdict (now (d .entry)) (now (x .entry)) s (now (y .entry)) k ⌝ }

@@ -24,6 +24,7 @@ use rules::values::rule_15;
 use slots::block_at;
 use slots::numbered;
 
+// Rules 7 to 10: `seen` are the series before y, and s is the number of y.
 fn form_verdict(
     table: &[u8; 256],
     d: &[u8],
@@ -44,6 +45,7 @@ fn form_verdict(
     then(r7, then(r8, then(r9, r10)))
 }
 
+// Rules 11 to 15: 11 to 13 over all positions, then 14 over all, then 15.
 fn values_verdict(d: &[u8], h: &[u8], x: &[u8], s: usize, y: &[u8]) -> Verdict
     ensures { λ r. ⌜ r ≡ valuesVerdict (now (d .entry)) (now (h .entry)) (now (x .entry)) s (now (y .entry)) ⌝ }
 {
@@ -74,6 +76,7 @@ fn series_verdict(
     values_verdict(d, h, numbered(us, stored_of(us, slot, y)), s, y)
 }
 
+// In the order of the message, and no further than the first refusal.
 pub fn each_series(
     table: &[u8; 256],
     d: &[u8],

@@ -30,18 +30,21 @@ pub fn series_of(message: &[u8]) -> &[u8]
     part_of(message, 512, message.len())
 }
 
+// "Kind 1; the count right": the count is of the series that follow.
 pub fn head_right(h: &[u8], many: usize) -> bool
     ensures { λ r. ⌜ r ≡ headRight (now (h .entry)) many ⌝ }
 {
     is_sender(h) & (series_count(h) as usize == many) & sender_zeros_in_message(h)
 }
 
+// Kind 2, and the first block's n.
 pub fn series_right(h: &[u8], y: &[u8]) -> bool
     ensures { λ r. ⌜ r ≡ seriesRight (now (h .entry)) (now (y .entry)) ⌝ }
 {
     is_series(y) & series_zeros_in_message(y) & (n_of(y) == n_of(h))
 }
 
+// Each series beside the same first block.
 fn all_series_right(h: &[u8], series: &[u8]) -> bool
     ensures { λ r. ⌜ r ≡ every (seriesRight (now (h .entry))) (cut 512 (now (series .entry))) ⌝ }
 {
@@ -70,6 +73,7 @@ pub fn message_right(message: &[u8]) -> bool
     head_right(h, series.len() / 512) & all_series_right(h, series)
 }
 
+// A rule is the test that it is broken.
 pub fn rule_2(message: &[u8]) -> bool
     ensures { λ r. ⌜ r ≡ rule2 (now (message .entry)) ⌝ }
 {

@@ -26,18 +26,21 @@ use slots::block_at;
 use slots::is_series_of;
 use sound::series::parties_of;
 
+// The id first, as the definition has it: one id is looked for among many series.
 pub fn id_is(id: &[u8], x: &[u8]) -> bool
     ensures { λ r. ⌜ r ≡ idIs (now (id .entry)) (now (x .entry)) ⌝ }
 {
     same(id_of(x), id)
 }
 
+// "Its (in party, out party) pair": both codes in one comparison.
 pub fn pair_is(parties: &[u8], x: &[u8]) -> bool
     ensures { λ r. ⌜ r ≡ pairIs (now (parties .entry)) (now (x .entry)) ⌝ }
 {
     same(pair(x), parties)
 }
 
+// Either is enough: an id or a pair stands once in a message.
 fn takes(id: &[u8], parties: &[u8], x: &[u8]) -> bool
     ensures { λ r. ⌜ r ≡ (idIs (now (id .entry)) (now (x .entry)) or pairIs (now (parties .entry)) (now (x .entry))) ⌝ }
 {
@@ -59,6 +62,7 @@ fn seen_earlier(seen: &[u8], id: &[u8], parties: &[u8]) -> bool
     false
 }
 
+// One without the other: the same id for another trade, or the same trade under another id.
 fn crossed(y: &[u8], x: &[u8]) -> bool
     ensures { λ r. ⌜ r ≡ (withOtherPair (now (y .entry)) (now (x .entry)) or withOtherId (now (y .entry)) (now (x .entry))) ⌝ }
 {
@@ -92,6 +96,7 @@ fn stored_otherwise(us: &[u8], slot: Slot, y: &[u8]) -> bool
     false
 }
 
+// Rules 14 to 17 know a series again by its pair alone, which rule 7 makes safe.
 pub fn rule_7(us: &[u8], slot: Slot, seen: &[u8], y: &[u8]) -> bool
     ensures { λ r. ⌜ r ≡ rule7 (keep (isSeriesOf (slot .0)) (cut 512 (now (us .entry)))) (cut 512 (now (seen .entry))) (now (y .entry)) ⌝ }
 {
@@ -100,6 +105,7 @@ pub fn rule_7(us: &[u8], slot: Slot, seen: &[u8], y: &[u8]) -> bool
         | stored_otherwise(us, slot, y)
 }
 
+// Both codes are valid, they differ, and one is the sender's.
 pub fn rule_8(table: &[u8; 256], h: &[u8], y: &[u8]) -> bool
     requires { ⌜ IsTable (now table) ⌝ }
     ensures { λ r. ⌜ r ≡ rule8 (now (h .entry)) (now (y .entry)) ⌝ }
@@ -109,12 +115,14 @@ pub fn rule_8(table: &[u8; 256], h: &[u8], y: &[u8]) -> bool
         | !parties_of(sender(h), pair(y))
 }
 
+// Both areas are the book's one area.
 pub fn rule_9(d: &[u8], y: &[u8]) -> bool
     ensures { λ r. ⌜ r ≡ rule9 (now (d .entry)) (now (y .entry)) ⌝ }
 {
     !same(in_area(y), area(d)) | !same(out_area(y), area(d))
 }
 
+// The capacity fields stand for trades that the desk does not take.
 pub fn rule_10(y: &[u8]) -> bool
     ensures { λ r. ⌜ r ≡ rule10 (now (y .entry)) ⌝ }
 {

@@ -15,12 +15,14 @@ use layout::sender;
 use layout::version;
 use slots::is_sender;
 
+// "Receiver is not the book's": the message was meant for another desk.
 pub fn rule_3(d: &[u8], h: &[u8]) -> bool
     ensures { λ r. ⌜ r ≡ rule3 (now (d .entry)) (now (h .entry)) ⌝ }
 {
     !same(receiver(h), receiver(d))
 }
 
+// The sender's code is checked before the sender is looked up: a code that is not valid has no slot. The table is lent, as rule 8 needs it for each series.
 pub fn rule_4(table: &[u8; 256], h: &[u8]) -> bool
     requires { ⌜ IsTable (now table) ⌝ }
     ensures { λ r. ⌜ r ≡ rule4 (now (h .entry)) ⌝ }
@@ -28,6 +30,7 @@ pub fn rule_4(table: &[u8; 256], h: &[u8]) -> bool
     !eic_valid_with(table, sender(h))
 }
 
+// Day and n are the book's, so that position k of the message is position k of the book.
 pub fn rule_5(d: &[u8], h: &[u8]) -> bool
     ensures { λ r. ⌜ r ≡ rule5 (now (d .entry)) (now (h .entry)) ⌝ }
 {
@@ -46,6 +49,7 @@ fn version_broken(stored: &[u8], h: &[u8]) -> bool
     !(version(h) == 1)
 }
 
+// The one rule of the first block that asks what is stored of the sender.
 pub fn rule_6(stored: &[u8], h: &[u8]) -> bool
     ensures { λ r. ⌜ r ≡ rule6 (now (stored .entry) ∷ []) (now (h .entry)) ⌝ }
 {

@@ -11,6 +11,7 @@ use paper::Slot;
 use slots::block_at;
 use slots::is_series_of;
 
+// Kind and sender's slot come first, as in rule 7.
 fn pair_is_own(slot: Slot, parties: &[u8], x: &[u8]) -> bool
     ensures { λ r. ⌜ r ≡ (isSeriesOf (slot .0) (now (x .entry)) and pairIs (now (parties .entry)) (now (x .entry))) ⌝ }
 {
@@ -35,6 +36,7 @@ pub fn stored_of(us: &[u8], slot: Slot, y: &[u8]) -> Slot
     Slot(0)
 }
 
+// "New" means that no slot holds it, and it will need one.
 pub fn is_new(us: &[u8], slot: Slot, y: &[u8]) -> bool
     ensures { λ r. ⌜ r ≡ isNew (keep (isSeriesOf (slot .0)) (cut 512 (now (us .entry)))) (now (y .entry)) ⌝ }
 {

@@ -10,6 +10,7 @@ use layout::quantity;
 use layout::version;
 use slots::is_series;
 
+// The top bit is the sign: a quantity below 0.
 pub fn rule_11(n: usize, y: &[u8], k: usize) -> bool
     requires { ⌜ k < 100 ⌝ }
     ensures { λ r. ⌜ r ≡ rule11 n (now (y .entry)) k ⌝ }
@@ -17,6 +18,7 @@ pub fn rule_11(n: usize, y: &[u8], k: usize) -> bool
     (k < n) & (2147483648 <= quantity(y, k))
 }
 
+// Judged behind rule 11, so that a quantity with the top bit set never comes to it.
 pub fn rule_12(n: usize, y: &[u8], k: usize) -> bool
     requires { ⌜ k < 100 ⌝ }
     ensures { λ r. ⌜ r ≡ rule12 n (now (y .entry)) k ⌝ }
@@ -24,6 +26,7 @@ pub fn rule_12(n: usize, y: &[u8], k: usize) -> bool
     (k < n) & (9999999 < quantity(y, k))
 }
 
+// Above the day's n there is no quarter-hour.
 pub fn rule_13(n: usize, y: &[u8], k: usize) -> bool
     requires { ⌜ k < 100 ⌝ }
     ensures { λ r. ⌜ r ≡ rule13 n (now (y .entry)) k ⌝ }
@@ -39,6 +42,7 @@ pub fn closed(d: &[u8], k: usize) -> bool
     !(clock(d).0 as usize + lead(d) as usize <= 15 * k + 10080)
 }
 
+// Of a new series nothing is stored, and each of its stored quantities counts as 0.
 pub fn rule_14(d: &[u8], x: &[u8], y: &[u8], k: usize) -> bool
     requires { ⌜ k < 100 ⌝ }
     ensures { λ r. ⌜ r ≡ rule14 (now (d .entry)) (now (x .entry)) (now (y .entry)) k ⌝ }
@@ -46,6 +50,7 @@ pub fn rule_14(d: &[u8], x: &[u8], y: &[u8], k: usize) -> bool
     closed(d, k) & !(quantity(y, k) == quantity(x, k))
 }
 
+// A series keeps its version until one of its quantities changes.
 pub fn series_version(x: &[u8], h: &[u8], y: &[u8]) -> u16
     ensures { λ r. ⌜ r ≡ seriesVersion (now (x .entry)) (now (h .entry)) (now (y .entry)) ⌝ }
 {
@@ -55,6 +60,7 @@ pub fn series_version(x: &[u8], h: &[u8], y: &[u8]) -> u16
     version(x)
 }
 
+// The sender says itself which of its series have changed; the desk finds out for itself.
 pub fn rule_15(x: &[u8], h: &[u8], y: &[u8]) -> bool
     ensures { λ r. ⌜ r ≡ rule15 (now (x .entry)) (now (h .entry)) (now (y .entry)) ⌝ }
 {

@@ -17,6 +17,7 @@ use slots::block_at;
 use slots::is_sender;
 use slots::is_series_of;
 
+// A series that the message leaves out is no withdrawal.
 fn absent(series: &[u8], x: &[u8]) -> bool
     ensures { λ r. ⌜ r ≡ absent (cut 512 (now (series .entry))) (now (x .entry)) ⌝ }
 {
@@ -31,6 +32,7 @@ fn absent(series: &[u8], x: &[u8]) -> bool
     true
 }
 
+// Kind and sender's slot come first, as in rule 7.
 fn absent_own(series: &[u8], slot: Slot, x: &[u8]) -> bool
     ensures { λ r. ⌜ r ≡ (isSeriesOf (slot .0) (now (x .entry)) and absent (cut 512 (now (series .entry))) (now (x .entry))) ⌝ }
 {
@@ -40,6 +42,7 @@ fn absent_own(series: &[u8], slot: Slot, x: &[u8]) -> bool
     absent(series, x)
 }
 
+// A message carries all series of its sender: none that is stored may be left out.
 pub fn rule_16(us: &[u8], slot: Slot, series: &[u8]) -> bool
     ensures { λ r. ⌜ r ≡ rule16 (keep (isSeriesOf (slot .0)) (cut 512 (now (us .entry)))) (cut 512 (now (series .entry))) ⌝ }
 {
@@ -54,12 +57,14 @@ pub fn rule_16(us: &[u8], slot: Slot, series: &[u8]) -> bool
     false
 }
 
+// A test as a number to be summed.
 fn one_if(test: bool) -> usize
     ensures { λ r. ⌜ (r ≡ cond test 1 0) × (r ≤ 1) ⌝ }
 {
     if test { 1 } else { 0 }
 }
 
+// Those that will need a slot.
 fn new_series(us: &[u8], slot: Slot, series: &[u8]) -> usize
     ensures { λ r. ⌜ (r ≡ count (isNew (keep (isSeriesOf (slot .0)) (cut 512 (now (us .entry))))) (cut 512 (now (series .entry)))) × (r ≤ length (now (series .entry)) / 512) ⌝ }
 {
@@ -73,6 +78,7 @@ fn new_series(us: &[u8], slot: Slot, series: &[u8]) -> usize
     n
 }
 
+// A new sender needs a slot too.
 pub fn new_blocks(us: &[u8], slot: Slot, stored: &[u8], series: &[u8]) -> usize
     ensures { λ r. ⌜ r ≡ newBlocks (now (stored .entry) ∷ []) (keep (isSeriesOf (slot .0)) (cut 512 (now (us .entry)))) (cut 512 (now (series .entry))) ⌝ }
 {

@@ -1,0 +1,13 @@
+-- Laws that the proofs of this crate share.
+pub mod Writing
+pub mod Lent
+pub mod Marking
+pub mod Laying
+pub mod Adding
+pub mod InTurn
+pub mod Renewing
+pub mod Stored
+pub mod Touching
+pub mod Phases
+pub mod Parts
+pub mod Whole

@@ -1,0 +1,50 @@
+-- A part of a list that was lent and is back: one block, or the first blocks.
+use mathlib.Core.Path.{_≡_, refl, sym, ap, ap₂, _∙_}
+use mathlib.Core.Bool.{Bool, true, false, not}
+use mathlib.Core.List.{List, [], _++_, append-assoc}
+use Prim.Native.Nat.{ℕ, _+_, _-_, _*_, _/_, _≤_, _<_}
+use native.Mathlib.Nat.{add-sub-cancel-left}
+use native.Mathlib.Omega.{arith}
+use lib.Dec.{eqb}
+use lib.ListN.{length, take, drop, getD, set}
+use lib.Seq.{drop-drop}
+use borrow.Author.Tests.{eqb-true, eqb-false}
+use Rattle.laws.specs.Lists.{has, place}
+use Rattle.laws.specs.Lists.Laws.{place-none, place-some}
+use Rattle.laws.specs.Bytes.{written}
+use Rattle.laws.specs.Bytes.Laws.{written-take-drop}
+use Rattle.laws.specs.Cut.{cut}
+use Rattle.slots.proofs.Laws.{block-some}
+use Rattle.laws.specs.Cut.Laws.{cut-put, cut-append, cut-drop, cut-at, take-cut, block-length, width-blocks}
+
+-- block i came back as f makes it of what it was
+pub cut-lent : (f : List ℕ → List ℕ) (b : List ℕ) (i : ℕ) {y : List ℕ} → 512 * i + 512 ≤ length b → y ≡ f (take (512 * i + 512 - 512 * i) (drop (512 * i) b)) → length y ≡ 512
+    → cut 512 (take (512 * i) b ++ (y ++ drop (512 * i + 512 - 512 * i) (drop (512 * i) b))) ≡ set (cut 512 b) i (f (getD (cut 512 b) i []))
+cut-lent f b i {y} h q e =
+    let n : i < length b / 512 = width-blocks 512 (length b) i (omega arith) h in
+    let d : drop (512 * i + 512 - 512 * i) (drop (512 * i) b) ≡ drop (512 * i + length y) b = rw (add-sub-cancel-left, e) (drop-drop 512 (512 * i) b) in
+    let p : take (512 * i) b ++ (y ++ drop (512 * i + 512 - 512 * i) (drop (512 * i) b)) ≡ written (512 * i) y b =
+    ap (λ l. take (512 * i) b ++ (y ++ l)) d ∙ sym (append-assoc (take (512 * i) b) y (drop (512 * i + length y) b)) ∙ sym (written-take-drop (512 * i) y b (omega arith))
+    in
+    ap (cut 512) p ∙ cut-put 512 i y b e n ∙ ap (set (cut 512 b) i) (q ∙ ap f (block-some b i n))
+
+-- the first k blocks, and those blocks lent and back as g makes them of what they were
+pub cut-first : (b : List ℕ) (k : ℕ) → 512 * k ≤ length b → cut 512 (take (512 * k) b) ≡ take k (cut 512 b)
+cut-first b k h = take-cut 512 b k (omega arith)
+
+pub cut-lent-first : (g : List (List ℕ) → List (List ℕ)) (b : List ℕ) (k : ℕ) (y : List ℕ) → 512 * k ≤ length b → length y ≡ 512 * k → cut 512 y ≡ g (cut 512 (take (512 * k) b))
+    → cut 512 (y ++ drop (512 * k) b) ≡ g (take k (cut 512 b)) ++ drop k (cut 512 b)
+cut-lent-first g b k y h e q =
+    cut-append 512 k y (drop (512 * k) b) e ∙ ap₂ (λ p r. p ++ r) (q ∙ ap g (cut-first b k h)) (cut-drop 512 b k)
+
+pub block-whole : (b : List ℕ) (i : ℕ) → i < length b / 512 → length (getD (cut 512 b) i []) ≡ 512
+block-whole b i h = ap length (cut-at 512 b i h) ∙ block-length 512 b i h
+
+-- ---- what a search's answer says
+
+by-zero : {A : Type 0} (p : A → Bool) (l : List A) (t : ℕ) → t ≡ place p l → (b : Bool) → eqb t 0 ≡ b → not b ≡ has p l
+by-zero p l t e true q = sym (place-none p l t e (eqb-true t 0 q))
+by-zero p l t e false q = sym (place-some p l t e (eqb-false t 0 q))
+
+pub place-has : {A : Type 0} (p : A → Bool) (l : List A) {t : ℕ} → t ≡ place p l → not (eqb t 0) ≡ has p l
+place-has p l {t} e = by-zero p l t e (eqb t 0) refl

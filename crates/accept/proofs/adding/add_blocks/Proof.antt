@@ -1,0 +1,32 @@
+-- What is laid in two turns, the sender's block and then the series, is laid in one; the first u slots are the same in both.
+use Rattle.laws.specs.Kit.{needs, arith}
+use denote.Ref.{now}
+use Rattle.laws.specs.Cut.{cut}
+use Rattle.laws.specs.Cut.Laws.{cut-length}
+use Rattle.accept.proofs.Laws.InTurn.{sender-room, series-room, both-laid}
+use Rattle.accept.proofs.adding.add_blocks.Statement.{statement}
+use Rattle.accept.proofs.adding.add_blocks.Tie as tie
+
+add-sender-requires : tie.Need-add-sender-requires
+add-sender-requires c κs =
+    let a = c .before .before .before .before in
+    let r = sender-room (a .args .known .0) (a .args .slot .0) (a .args .u) (cut 512 (now (a .args .slots))) (cut 512 (now (a .args .series))) (now (a .args .head)) (omega (arith, cut-length 512 (now (a .args .slots)))) in
+    (omega (arith, r, cut-length 512 (now (a .args .slots))), a .pre .1, a .pre .2)
+
+add-series-requires : tie.Need-add-series-requires
+add-series-requires c κs =
+    let s = c .before .before .before in
+    let a = s .before .before .before .before .before in
+    let r = series-room (a .args .known .0) (a .args .slot .0) (a .args .u) (cut 512 (now (a .args .slots))) (cut 512 (now (a .args .series))) (now (a .args .head)) (omega (arith, cut-length 512 (now (a .args .slots)))) (s .add-sender .ensures) in
+    (r .0, omega (arith, r .1, cut-length 512 (now (a .args .slots))))
+
+returns : tie.Need-returns
+returns c =
+    let r = c .before .before in
+    let s = r .before .before .before .before in
+    let a = s .before .before .before .before .before in
+    let l = both-laid (a .args .known .0) (a .args .slot .0) (a .args .u) (cut 512 (now (a .args .slots))) (cut 512 (now (a .args .series))) (now (a .args .head)) (omega (arith, cut-length 512 (now (a .args .slots)))) (s .add-sender .ensures) (r .add-series .ensures) in
+    (l, omega (arith, l .end))
+
+pub add-blocks-spec : {M : Type 1} → statement M
+add-blocks-spec = tie.close (tie.spec add-sender-requires add-series-requires (search needs) returns)

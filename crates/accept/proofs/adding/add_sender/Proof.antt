@@ -1,0 +1,39 @@
+-- A sender that has no slot yet gets the lowest free one; for one that has its slot nothing is written.
+use Rattle.laws.specs.Kit.{needs, arith, ap, length}
+use denote.Ref.{now}
+use Rattle.laws.specs.Cut.{cut}
+use Rattle.laws.specs.Cut.Laws.{cut-length}
+use Rattle.paper.specs.Acceptance.{senderKept}
+use Rattle.accept.proofs.Laws.Lent.{cut-lent}
+use Rattle.accept.proofs.Laws.Laying.{laid-none, laid-one}
+use Rattle.accept.proofs.Laws.Adding.{sender-new, sender-known}
+use Rattle.accept.proofs.adding.add_sender.Statement.{statement}
+use Rattle.accept.proofs.adding.add_sender.Tie as tie
+
+part-end : tie.Need-part-write-sender-end
+part-end c =
+    let t = c in
+    let a = t .before .before .before .before .before in
+    omega (arith, ap length (sender-new (a .args .known .0) (now (a .args .head)) (cut 512 (now (a .args .series))) (t .if1 .taken)))
+
+new : tie.Need-returns
+new c =
+    let w = c .before .before in
+    let t = w .before .before in
+    let a = t .before .before .before .before .before in
+    let y = senderKept (now (a .args .head)) (cut 512 (now (a .args .series))) in
+    let e = sender-new (a .args .known .0) (now (a .args .head)) (cut 512 (now (a .args .series))) (t .if1 .taken) in
+    rw e
+    (laid-one (a .args .u) (cut 512 (now (a .args .slots))) y (omega (arith, ap length e, cut-length 512 (now (a .args .slots))))
+    (cut-lent (λ x. y) (now (a .args .slots)) (a .args .u) (omega (arith, ap length e)) (w .write-sender .ensures) (omega arith)))
+
+known : tie.Need-returns-2
+known c =
+    let a = c .before .before .before .before .before in
+    rw (sender-known (a .args .known .0) (now (a .args .head)) (cut 512 (now (a .args .series))) (c .if1 .left))
+    (laid-none (a .args .u) (cut 512 (now (a .args .slots))) (omega (arith, cut-length 512 (now (a .args .slots)))))
+
+pub add-sender-spec : {M : Type 1} → statement M
+add-sender-spec =
+    tie.close
+    (tie.spec (search needs) (search needs) (search needs) (search needs) part-end (λ c κs. search needs) (search needs) (search needs) new known)

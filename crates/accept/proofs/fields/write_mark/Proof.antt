@@ -1,0 +1,12 @@
+-- The mark is written over its four bytes, and the check is taken of the block with it.
+use Rattle.laws.specs.Kit.{needs}
+use Rattle.paper.specs.Layout.{withMark}
+use Rattle.accept.proofs.fields.write_mark.Statement.{statement}
+use Rattle.accept.proofs.fields.write_mark.Tie as tie
+
+returns : tie.Need-returns
+unfolding withMark
+returns c = cc
+
+pub write-mark-spec : {M : Type 1} → statement M
+write-mark-spec = tie.close (tie.spec (search needs) (search needs) (search needs) returns)

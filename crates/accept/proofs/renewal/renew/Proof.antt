@@ -1,0 +1,74 @@
+-- The tests are the definition's, in its order; the message's series of the block's pair is the first that has it.
+use Rattle.laws.specs.Kit.{needs, arith, sym, ap, _∙_, _-_}
+use denote.Ref.{now}
+use lib.ListN.{length}
+use Rattle.laws.specs.Lists.Laws.{place-within}
+use Rattle.laws.specs.Cut.{cut}
+use Rattle.laws.specs.Cut.Laws.{cut-length}
+use Rattle.paper.specs.Layout.{withSendersSlot}
+use Rattle.accept.proofs.Laws.Lent.{block-whole}
+use Rattle.accept.proofs.Laws.Renewing.{renewed-sender, renewed-other, renewed-absent, renewed-series}
+use Rattle.accept.proofs.renewal.renew.Statement.{statement}
+use Rattle.accept.proofs.renewal.renew.Tie as tie
+
+the-sender : tie.Need-returns
+the-sender c =
+    let w = c .before .before in
+    let t = w .before .before in
+    w .write-sender .ensures ∙ renewed-sender _ _ _ _ (t .if1 .taken) (cc)
+
+absent : tie.Need-returns-2
+absent c =
+    let p = c .before in
+    let u = p .before .before in
+    let s = u .before in
+    let t = s .before .before in
+    renewed-absent _ _ _ _ (t .if1 .left) (cc) (u .if2 .taken) (s .is-series-of .ensures) _ (p .number-with-pair .ensures) (c .if3 .taken)
+
+write-series-requires : tie.Need-write-series-requires
+write-series-requires c κs =
+    let o = c .before .before in
+    let p = o .before in
+    let a = p .before .before .before .before .before .before .before .before .before .before .before .before in
+    let k = p .number-with-pair .result in
+    a .pre .0 ∙ sym (ap length (c .block-at .ensures) ∙ block-whole (now (a .args .series)) (k - 1) (omega (arith, cut-length 512 (now (a .args .series)), place-within _ (cut 512 (now (a .args .series))) k (p .number-with-pair .ensures))))
+
+a-series : tie.Need-returns-3
+a-series c =
+    let w = c .before .before in
+    let b = w .before in
+    let o = b .before .before in
+    let p = o .before in
+    let u = p .before .before in
+    let s = u .before in
+    let t = s .before .before in
+    let a = t .before .before .before .before .before .before .before in
+    w .write-series .ensures ∙ ap (withSendersSlot (a .args .slot .0)) (b .block-at .ensures)
+    ∙ renewed-series _ _ _ _ (t .if1 .left) (cc) (u .if2 .taken) (s .is-series-of .ensures) _ (p .number-with-pair .ensures) (o .if3 .left)
+
+another : tie.Need-returns-4
+another c =
+    let s = c .before in
+    let t = s .before .before in
+    renewed-other _ _ _ _ (t .if1 .left) (cc) (c .if2 .left) (s .is-series-of .ensures)
+
+pub renew-spec : {M : Type 1} → statement M
+renew-spec =
+    tie.close
+    (tie.spec
+    (λ c κs. search needs)
+    (λ c κs. search needs)
+    (λ c κs. search needs)
+    (search needs)
+    the-sender
+    (λ c κs. search needs)
+    (λ c κs. search needs)
+    (search needs)
+    absent
+    (search needs)
+    (λ c κs. search needs)
+    write-series-requires
+    (search needs)
+    a-series
+    (search needs)
+    another)

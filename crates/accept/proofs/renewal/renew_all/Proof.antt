@@ -1,0 +1,57 @@
+-- The blocks before i are renewed; what becomes of a block is told by it alone.
+use Rattle.laws.specs.Kit.{needs, arith, _≡_, _∙_, _≤_, _-_, _/_, [], length}
+use denote.Ref.{now}
+use Rattle.laws.specs.Cut.{cut}
+use Rattle.laws.specs.Cut.Laws.{cut-length}
+use Rattle.laws.specs.Loops.{done, done-none, done-more-alone, done-all}
+use Rattle.paper.specs.Acceptance.{renewed}
+use Rattle.accept.proofs.Laws.Lent.{cut-lent}
+use Rattle.accept.proofs.renewal.renew_all.Statement.{statement}
+use Rattle.accept.proofs.renewal.renew_all.Tie as tie
+
+abbrev Inv-loop : tie.InvT-loop
+Inv-loop us₀ head series own many i₀ us i = (i ≤ many) × (many ≡ length us₀ / 512) × (length us ≡ length us₀) × (cut 512 us ≡ done (λ l. renewed own head (cut 512 series)) (cut 512 us₀) i)
+
+abbrev μ-loop : tie.MeasureT-loop
+μ-loop us₀ head series own many i₀ us i = many - i
+
+loop-holds : tie.Need-loop-holds Inv-loop μ-loop
+loop-holds c = (search needs, search needs, search needs, done-none _ _)
+
+loop-again : tie.Need-loop-again Inv-loop μ-loop
+loop-again c =
+    let m = c .before .before in
+    let i = m .before .before .before in
+    let a = i .before .before .before .before in
+    let f = renewed (a .args .slot .0) (now (a .args .head)) (cut 512 (now (a .args .series))) in (
+      omega arith,
+      i .loop .inv .1,
+      search needs,
+      done-more-alone f (cut 512 (now (a .args .us))) (i .loop .i) [] (omega (arith, cut-length 512 (now (a .args .us)))) _ _ (i .loop .inv .3)
+          (cut-lent f (i .loop .us) (i .loop .i) (omega arith) (m .renew .ensures) (omega arith)),
+    )
+
+returns : tie.Need-returns Inv-loop μ-loop
+returns c =
+    let i = c .before in
+    let a = i .before .before .before .before in
+    i .loop .inv .3 ∙ done-all _ _ (i .loop .i) (omega (arith, cut-length 512 (now (a .args .us))))
+
+pub renew-all-spec : {M : Type 1} → statement M
+renew-all-spec =
+    tie.close
+    (tie.spec
+    Inv-loop
+    μ-loop
+    loop-holds
+    (search needs)
+    (search needs)
+    (search needs)
+    (search needs)
+    (search needs)
+    (λ c κs. search needs)
+    (search needs)
+    (search needs)
+    loop-again
+    (search needs)
+    returns)

@@ -1,0 +1,31 @@
+-- What the code of an acceptance relies on: a verdict of 0 gives it.
+use mathlib.Core.Path.{_≡_}
+use mathlib.Core.Bool.{true}
+use mathlib.Core.List.{List}
+use Prim.Native.Nat.{ℕ, _/_, _%_, _≤_}
+use lib.ListN.{length}
+use Rattle.laws.specs.Lists.{has, keep, All}
+use Rattle.paper.specs.Layout.{Bytes, Block, nOf, sender, pair}
+use Rattle.paper.specs.Book.{dayBlock, slots, used, isSender, isSeries, isSeriesOf, ownSeries}
+use Rattle.paper.specs.Message.{headOf, seriesOf}
+use Rattle.paper.specs.Rules.{pairIs}
+use Rattle.paper.specs.Acceptance.{slotFor, placed}
+
+-- us are the used ones of `many` slots, h a message's first block, series its series
+pub record Placing (n many : ℕ) (us : List Block) (h : Block) (series : List Block) : Type 0 where
+  pub small : n ≤ 100
+  pub few : many ≤ 1000
+  pub room : length (placed us h series) ≤ many
+  pub head-whole : length h ≡ 512
+  pub head-kind : isSender h ≡ true
+  pub series-few : length series ≤ 200
+  pub series-whole : All (λ y. length y ≡ 512) series
+  pub series-kind : All (λ y. isSeries y ≡ true) series
+  -- the series of the slot that the sender has or gets are its own, and the message has them all
+  pub own : keep (isSeriesOf (slotFor us (sender h))) us ≡ ownSeries us (sender h)
+  pub present : All (λ x. has (pairIs (pair x)) series ≡ true) (ownSeries us (sender h))
+
+pub record Fits (book message : Bytes) : Type 0 where
+  pub whole : length book % 512 ≡ 0
+  pub least : 1 ≤ length book / 512
+  pub placing : Placing (nOf (dayBlock book)) (length (slots book)) (used book) (headOf message) (seriesOf message)

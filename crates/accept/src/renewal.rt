@@ -1,0 +1,91 @@
+// "The sender block and changed series replace the stored ones".
+ghost use mathlib.Core.Path.{_≡_};
+ghost use mathlib.Core.List.{map};
+ghost use Prim.Native.Nat.{_≤_};
+ghost use lib.ListN.{length};
+ghost use Rattle.laws.specs.Lists.{place};
+ghost use Rattle.laws.specs.Cut.{cut};
+ghost use Rattle.paper.specs.Layout.{pair, withSendersSlot};
+ghost use Rattle.paper.specs.Rules.{pairIs};
+ghost use Rattle.paper.specs.Acceptance.{senderKept, renewed};
+use super::fields::write_bytes;
+use super::fields::write_senders_slot;
+use block::check::seal;
+use layout::pair;
+use layout::sender;
+use marks::pair_is;
+use nets::write_nets;
+use paper::Slot;
+use slots::block_at;
+use slots::is_sender_block_of;
+use slots::is_series_of;
+
+// The number of the message's series that has the pair of b; 0 where none has.
+pub fn number_with_pair(series: &[u8], b: &[u8]) -> usize
+    ensures { λ r. ⌜ r ≡ place (pairIs (pair (now (b .entry)))) (cut 512 (now (series .entry))) ⌝ }
+{
+    let p = pair(b);
+    let many = series.len() / 512;
+    let mut i = 0;
+    while i < many {
+        if pair_is(block_at(series, i), p) {
+            return i + 1;
+        }
+        i += 1;
+    }
+    0
+}
+
+// A message's series as it is kept: told its sender's slot.
+pub fn write_series(block: &mut [u8], y: &[u8], slot: Slot)
+    requires { ⌜ length (now block) ≡ length (now y) ⌝ }
+    ensures { λ _. ⌜ now (block .exit) ≡ withSendersSlot (slot .0) (now (y .entry)) ⌝ }
+{
+    write_bytes(block, 0, y);
+    write_senders_slot(block, slot);
+}
+
+// A message's first block as it is kept: with the nets of its series.
+pub fn write_sender(block: &mut [u8], head: &[u8], series: &[u8])
+    requires { ⌜ (length (now block) ≡ length (now head)) × (length (now series) ≤ 268435456) ⌝ }
+    ensures { λ _. ⌜ now (block .exit) ≡ senderKept (now (head .entry)) (cut 512 (now (series .entry))) ⌝ }
+{
+    write_bytes(block, 0, head);
+    write_nets(block, sender(head), series);
+    seal(block);
+}
+
+// One used block, of which most are another sender's and stay.
+fn renew(block: &mut [u8], head: &[u8], series: &[u8], slot: Slot)
+    requires { ⌜ (length (now block) ≡ 512) × (length (now head) ≡ 512) × (length (now series) ≤ 268435456) ⌝ }
+    ensures { λ _. ⌜ now (block .exit) ≡ renewed (slot .0) (now (head .entry)) (cut 512 (now (series .entry))) (now (block .entry)) ⌝ }
+{
+    let own = slot.0;
+    if is_sender_block_of(block, sender(head)) {
+        write_sender(block, head, series);
+        return;
+    }
+    if is_series_of(block, Slot(own)) {
+        let number = number_with_pair(series, block);
+        if number == 0 {
+            return;
+        }
+        write_series(block, block_at(series, number - 1), Slot(own));
+        return;
+    }
+}
+
+// Block by block: what becomes of one is told by it and the message alone.
+pub fn renew_all(us: &mut [u8], head: &[u8], series: &[u8], slot: Slot)
+    requires { ⌜ (length (now head) ≡ 512) × (length (now series) ≤ 268435456) ⌝ }
+    ensures { λ _. ⌜ cut 512 (now (us .exit)) ≡ map (renewed (slot .0) (now (head .entry)) (cut 512 (now (series .entry)))) (cut 512 (now (us .entry))) ⌝ }
+{
+    let own = slot.0;
+    let many = us.len() / 512;
+    let mut i = 0;
+    while i < many {
+        let start = 512 * i;
+        renew(&mut us[start..start + 512], head, series, Slot(own));
+        i += 1;
+    }
+}
