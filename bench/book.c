@@ -71,13 +71,14 @@ int main(int argc, char **argv) {
     memcpy(party, eic(senders - 1), 16);
     memcpy(other, eic(senders), 16);
     snprintf((char *)id, 16, "SERIES-%04u", series - 1);
+    if (tetherbay_clock(book, sizeof book, 10080 + 1500).number) return 4; /* every position closed */
     uint64_t r = 0;
     const char *call = argv[1];
     if (!strcmp(call, "checks")) r = tetherbay_checks_right(book, sizeof book);
     if (!strcmp(call, "sound")) r = tetherbay_sound(book, sizeof book);
     if (!strcmp(call, "clock")) r = tetherbay_clock(book, sizeof book, 10080 + 1500).number;
     if (!strcmp(call, "mark")) r = tetherbay_mark(book, sizeof book, party, 16, id, 16).state;
-    if (!strcmp(call, "final")) r = tetherbay_final(book, sizeof book, other, 16, party, 16, 1).number;
+    if (!strcmp(call, "final")) r = tetherbay_final(book, sizeof book, other, 16, party, 16, 1).number; /* the buyer has the pair, the seller has none */
     if (!strcmp(call, "plain")) r = tetherbay_plain_run(book, sizeof book).number;
     printf("%llu of %zu\n", (unsigned long long)r, used);
     return 0;
