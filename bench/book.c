@@ -78,6 +78,7 @@ int main(int argc, char **argv) {
     if (!strcmp(call, "sound")) r = tetherbay_sound(book, sizeof book);
     if (!strcmp(call, "clock")) r = tetherbay_clock(book, sizeof book, 10080 + 1500).number;
     if (!strcmp(call, "mark")) r = tetherbay_mark(book, sizeof book, party, 16, id, 16).state;
+    if (!strcmp(call, "block")) r = tetherbay_accepted_slot(book, sizeof book, party, 16, id, 16);
     if (!strcmp(call, "final")) r = tetherbay_final(book, sizeof book, other, 16, party, 16, 1).number; /* the buyer has the pair, the seller has none */
     if (!strcmp(call, "plain")) r = tetherbay_plain_run(book, sizeof book).number;
     printf("%llu of %zu\n", (unsigned long long)r, used);

@@ -91,6 +91,9 @@ tetherbay_clock_answer tetherbay_clock(uint8_t *book, size_t length, uint16_t mi
 /* The kept mark of a sender's series, by its id as the field of sixteen bytes. */
 tetherbay_mark_answer tetherbay_mark(const uint8_t *book, size_t length, const uint8_t *sender, size_t sender_length, const uint8_t *id, size_t id_length);
 
+/* The slot of a sender's series, whose block is the 512 bytes from 512 times the slot on; 0 where the book is not sound or the series unknown. */
+size_t tetherbay_accepted_slot(const uint8_t *book, size_t length, const uint8_t *sender, size_t sender_length, const uint8_t *id, size_t id_length);
+
 /* The final value of a trade at a position. */
 tetherbay_final_answer tetherbay_final(const uint8_t *book, size_t length, const uint8_t *seller, size_t seller_length, const uint8_t *buyer, size_t buyer_length,
                                        size_t position);

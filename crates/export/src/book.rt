@@ -6,6 +6,7 @@ ghost use Rattle.paper.specs.Clock.{clockAnswer, clockMoved};
 ghost use Rattle.paper.specs.Readings.{markAnswer};
 ghost use Rattle.paper.specs.Finals.{final};
 ghost use Rattle.paper.specs.PlainRun.{plainRun};
+ghost use Rattle.export.specs.Slots.{acceptedSlot};
 use paper::ClockAnswer;
 use paper::FinalAnswer;
 use paper::MarkAnswer;
@@ -46,6 +47,17 @@ pub extern "C" fn tetherbay_mark(book: &[u8], sender: &[u8], id: &[u8]) -> MarkA
     ensures { λ r. ⌜ r ≡ markAnswer (now (book .entry)) (now (sender .entry)) (now (id .entry)) ⌝ }
 {
     read::mark(book, sender, id)
+}
+
+// The accepted block is the 512 bytes from 512 times its slot on.
+#[no_mangle]
+pub extern "C" fn tetherbay_accepted_slot(book: &[u8], sender: &[u8], id: &[u8]) -> usize
+    ensures { λ r. ⌜ r ≡ acceptedSlot (now (book .entry)) (now (sender .entry)) (now (id .entry)) ⌝ }
+{
+    if !sound::sound(book) {
+        return 0;
+    }
+    read::stored_as(read::used(book), sender, id).0
 }
 
 #[no_mangle]
