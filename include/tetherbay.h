@@ -1,6 +1,13 @@
-/* The desk's calls for C. Link with target/staticlib/libexport.a (rt staticlib export), for x86-64.
-   Every call answers for all contents and lengths of what it is lent, and writes nothing past it; crates/export/src/lib.rt has
-   each call's promise, docs/PROMISES.md the same in words. A pointer may be anything where its length is 0, but not null. */
+/* The desk's calls for C. Link with target/staticlib/libexport.a (rt staticlib export), for x86-64; examples/desk.c is a first lesson.
+
+   A buffer is a pointer and a length in bytes. Every call answers for all contents and all lengths of what it is lent, keeps nothing of it past its
+   return, and reads and writes nothing outside it. A pointer may be any but null where its length is 0. A buffer that a call writes may not overlap
+   another of the same call. crates/export/src has each call's promise as it is proved, docs/PROMISES.md the same in words.
+
+   Where an answer has a number, 0 says that the call did what was asked; any other is a refusal, which leaves every byte of the buffers as it was and
+   every other field of the answer 0, unless its comment says otherwise. A position counts from 1, a slot and a series from 1, a minute from 10,080 minutes
+   before the day's start; where an answer has none of them, 0 stands for it. A sender, a party and an id are fields of sixteen bytes, an id filled
+   up with zero bytes; nothing is known under a field of another length. */
 #ifndef TETHERBAY_H
 #define TETHERBAY_H
 
@@ -8,58 +15,84 @@
 #include <stddef.h>
 #include <stdint.h>
 
-/* 0 and the kilowatts, or 30 or 31 and 0. */
+/* ---- blocks, fields and text */
+
+/* The check over bytes 0 to 507 of a block; of a shorter buffer, over the bytes that there are. */
+uint32_t tetherbay_check(const uint8_t *block, size_t length);
+
+/* Whether each whole block of 512 bytes holds its check in bytes 508 to 511. Bytes behind the last whole block are not looked at. */
+bool tetherbay_checks_right(const uint8_t *blocks, size_t length);
+
+/* Puts the check into bytes 508 to 511, as far as the buffer has them; no other byte changes. */
+void tetherbay_seal(uint8_t *block, size_t length);
+
+/* Whether these are sixteen bytes: 1 to 16 of A-Z, 0-9 and hyphen, then zero bytes. */
+bool tetherbay_id_well_formed(const uint8_t *id, size_t length);
+
+/* Whether these are sixteen bytes, and a valid EIC. */
+bool tetherbay_eic_valid(const uint8_t *code, size_t length);
+
+/* 0 and the kilowatts; 31 where a minus stands before a quantity text, 30 for any other text. */
 typedef struct {
     uint32_t number;
     uint32_t kilowatts;
 } tetherbay_quantity;
 
-/* 0 and the text's length, or 30 or 32 and 0. */
+/* What a quantity text in megawatts says: 1 to 4 digits, then optionally a point and 1 to 3 digits. */
+tetherbay_quantity tetherbay_quantity_read(const uint8_t *text, size_t length);
+
+/* 0 and the text's length; 30 for more than 9,999,999 kilowatts, else 32 for a buffer that is too short. */
 typedef struct {
     uint32_t number;
     size_t length;
 } tetherbay_printed;
 
-/* The check over bytes 0 to 507 of a block. */
-uint32_t tetherbay_check(const uint8_t *block, size_t length);
-
-/* Whether each whole block of 512 bytes holds its check in bytes 508 to 511. */
-bool tetherbay_checks_right(const uint8_t *blocks, size_t length);
-
-/* Puts a block's check right. */
-void tetherbay_seal(uint8_t *block, size_t length);
-
-/* Whether sixteen bytes are 1 to 16 of A-Z, 0-9 and hyphen, then zero bytes. */
-bool tetherbay_id_well_formed(const uint8_t *id, size_t length);
-
-/* Whether sixteen bytes are a valid EIC. */
-bool tetherbay_eic_valid(const uint8_t *code, size_t length);
-
-/* What a quantity text in megawatts says. */
-tetherbay_quantity tetherbay_quantity_read(const uint8_t *text, size_t length);
-
-/* Prints a quantity in megawatts. Bytes after the text stay, and a refusal leaves the buffer. */
+/* Prints a quantity in megawatts, with a point and three digits and no zero byte at the end. Bytes after the text stay. */
 tetherbay_printed tetherbay_quantity_print(uint32_t kilowatts, uint8_t *buffer, size_t length);
 
-/* The reason code of a number, 53 for A53; 0 where it has none. */
+/* The reason code of an answer's number, from the one fixed table: 53 for A53, and 1 (A01) for 0. 0 where the number has none. */
 uint8_t tetherbay_reason_code(uint32_t number);
 
-/* ---- a day book: blocks of 512 bytes, from 2 to 1,001 of them */
+/* ---- a day book: blocks of 512 bytes, from 2 to 1,001 of them, the day block and then slots 1, 2 and on */
 
-/* A position counts from 1, a slot from 1, a minute from 10,080 minutes before the day's start; 0 where an answer has none. */
+/* Whether the buffer is a sound book. Every other call on a book but open asks this first, and refuses with 1 where it is not. */
+bool tetherbay_sound(const uint8_t *book, size_t length);
+
+/* Opens a book for a day of n quarter-hours, whose positions close `lead` minutes before they begin: writes the day block and frees every slot, whatever
+   the buffer held. 0; 20 where the length is not that of 2 to 1,001 blocks; else 21 where n is not 92, 96 or 100, the lead above 1,440, the day not
+   eight digits, or the area or the receiver not a valid EIC. */
+uint32_t tetherbay_open(uint8_t *book, size_t length, uint8_t n, uint16_t lead, const uint8_t *day, size_t day_length, const uint8_t *area, size_t area_length,
+                        const uint8_t *receiver, size_t receiver_length);
+
 typedef struct {
     uint8_t n;
     uint16_t lead;
-    uint16_t clock;
+    uint16_t clock; /* a minute */
 } tetherbay_day;
 
-/* 0, 1 or 22, and the day's state as then kept; zeros on 1. */
+/* 0, 1 or 22, and the day's state as kept when the call returns: the advanced clock on 0, the old one on 22, zeros on 1. */
 typedef struct {
     uint32_t number;
     tetherbay_day state;
 } tetherbay_clock_answer;
 
-/* 0, 1 or 23, and the kept mark. */
+/* Moves the clock to a minute. 1 where the book is not sound; else 22 where the minute is below the kept clock or above 11,580. */
+tetherbay_clock_answer tetherbay_clock(uint8_t *book, size_t length, uint16_t minute);
+
+/* 0, or the number of the first broken rule, 1 to 17; 7 to 15 give the number of the series and 11 to 14 the position, no other does. */
+typedef struct {
+    uint32_t number;
+    size_t series;
+    size_t position;
+} tetherbay_verdict;
+
+/* Judges a message and, on 0, enters it: sender block, series, marks of both sides, nets and checks. */
+tetherbay_verdict tetherbay_submit(uint8_t *book, size_t length, const uint8_t *message, size_t message_length);
+
+/* The verdict that a submission would get now. Nothing is written. */
+tetherbay_verdict tetherbay_judge(const uint8_t *book, size_t length, const uint8_t *message, size_t message_length);
+
+/* 0 and the kept mark: state 1 (no counterpart), 2 (all positions agree) or 3 (they differ, first at this position), and the counterpart's slot. */
 typedef struct {
     uint32_t number;
     uint8_t state;
@@ -67,38 +100,46 @@ typedef struct {
     size_t partner;
 } tetherbay_mark_answer;
 
-/* 0, 1, 24, 25 or 26, and the final value. */
+/* The mark of a sender's series. 1 where the book is not sound; 23 where it keeps no such series. */
+tetherbay_mark_answer tetherbay_mark(const uint8_t *book, size_t length, const uint8_t *sender, size_t sender_length, const uint8_t *id, size_t id_length);
+
+/* A part of a buffer that the caller lent: where it begins and how many bytes it has. Offset 0 and length 0 where there is none. */
+typedef struct {
+    size_t offset;
+    size_t length;
+} tetherbay_part;
+
+/* The block of a sender's series, 512 bytes of the book; none where the book is not sound or keeps no such series. */
+tetherbay_part tetherbay_accepted_block(const uint8_t *book, size_t length, const uint8_t *sender, size_t sender_length, const uint8_t *id, size_t id_length);
+
+/* 0, 1, 24, 25 or 26, and on 0 the kilowatts. */
 typedef struct {
     uint32_t number;
     uint32_t kilowatts;
 } tetherbay_final_answer;
 
-/* 0 and whether all kept marks and nets are true, or 1. */
+/* The final value of a trade at a position: the seller's quantity, 0 where only the buyer keeps the trade. 1 where the book is not sound; else 24 where
+   the position is 0 or above n; else 25 where it is not closed yet; else 26 where neither party keeps a series of the two. */
+tetherbay_final_answer tetherbay_final(const uint8_t *book, size_t length, const uint8_t *seller, size_t seller_length, const uint8_t *buyer, size_t buyer_length,
+                                       size_t position);
+
+/* 0 and whether all kept marks and nets are true, or 1 and false where the book is not sound. */
 typedef struct {
     uint32_t number;
     bool holds;
 } tetherbay_plain_run_answer;
 
-bool tetherbay_sound(const uint8_t *book, size_t length);
-
-/* 0, 20 or 21. Success writes the day block and zeroes every slot; a refusal leaves the buffer. */
-uint32_t tetherbay_open(uint8_t *book, size_t length, uint8_t n, uint16_t lead, const uint8_t *day, size_t day_length, const uint8_t *area, size_t area_length,
-                        const uint8_t *receiver, size_t receiver_length);
-
-/* Moves the clock to a minute, which may not be lower than the kept one. */
-tetherbay_clock_answer tetherbay_clock(uint8_t *book, size_t length, uint16_t minute);
-
-/* The kept mark of a sender's series, by its id as the field of sixteen bytes. */
-tetherbay_mark_answer tetherbay_mark(const uint8_t *book, size_t length, const uint8_t *sender, size_t sender_length, const uint8_t *id, size_t id_length);
-
-/* The slot of a sender's series, whose block is the 512 bytes from 512 times the slot on; 0 where the book is not sound or the series unknown. */
-size_t tetherbay_accepted_slot(const uint8_t *book, size_t length, const uint8_t *sender, size_t sender_length, const uint8_t *id, size_t id_length);
-
-/* The final value of a trade at a position. */
-tetherbay_final_answer tetherbay_final(const uint8_t *book, size_t length, const uint8_t *seller, size_t seller_length, const uint8_t *buyer, size_t buyer_length,
-                                       size_t position);
-
-/* Works all marks and nets out afresh. */
+/* Works all marks and nets out afresh and compares. */
 tetherbay_plain_run_answer tetherbay_plain_run(const uint8_t *book, size_t length);
+
+/* Prints the listing of a book of at most 64 blocks: a header, then one line per series by ascending slot, with the kept marks; "too long" where the book
+   has more than 32,768 bytes, else "not sound" where it is not. Every line ends in a newline, no zero byte follows, and bytes after the text stay.
+   The text's length; 0 where the buffer is too short for the whole of it, and then nothing is written. 6,000 bytes are always enough. */
+size_t tetherbay_listing(const uint8_t *book, size_t length, uint8_t *buffer, size_t buffer_length);
+
+/* ---- a message: 2 to 201 blocks of 512 bytes, the sender's and then its series */
+
+/* Series 1, 2 and on of a message, 512 bytes of it each; none for 0, past the last, or where the message breaks rule 2. */
+tetherbay_part tetherbay_series(const uint8_t *message, size_t length, size_t number);
 
 #endif

@@ -10,17 +10,19 @@ use Rattle.laws.specs.Tests.{neg}
 use Rattle.laws.specs.Tests.Laws.{and-left, and-right, neg-no, less-no, upto-yes}
 use Rattle.laws.specs.Lists.{has, All}
 use Rattle.laws.specs.Lists.Laws.{all-imply, has-no-all, every-all}
+use Rattle.laws.specs.Bytes.{part, number}
 use Rattle.laws.specs.Cut.Laws.{cut-length, cut-widths}
 use Rattle.laws.specs.Order.Laws.{first-left, first-right}
 use Rattle.paper.specs.declared.Verdict.{Verdict}
-use Rattle.paper.specs.Layout.{Bytes, sender, pair}
+use Rattle.paper.specs.Layout.{Bytes, sender, sendersSlot, pair, seriesZerosInMessage}
 use Rattle.paper.specs.Ranges.{wholeBlocks}
-use Rattle.paper.specs.Book.{dayBlock, slots, used, freeSlots, isSender, isSeries, ownSender, ownSeries}
+use Rattle.paper.specs.Book.{dayBlock, slots, used, freeSlots, isSender, isSeries, isSeriesOf, ownSender, ownSeries}
 use Rattle.paper.specs.Sound.{usedSound}
 use Rattle.paper.specs.Message.{headOf, seriesOf, headRight, seriesRight, messageRight, rule2}
 use Rattle.paper.specs.Rules.{numberOf, _then_, broken, pairIs, rule1, absent, rule16, rule17, judge, verdict}
 use Rattle.paper.specs.Acceptance.{placed}
-use Rattle.facts.specs.Book.{slots-length}
+use Rattle.facts.specs.Layout.{value-zeros}
+use Rattle.facts.specs.Book.{slots-length, series-of-yes}
 use Rattle.facts.specs.Sound.{Sound, sound-says, day-n}
 use Rattle.accept.specs.Fits.{Fits}
 use Rattle.accept.specs.OwnSlot.{Named, named, own-same}
@@ -92,6 +94,12 @@ module _ (book message : Bytes) (e : numberOf (verdict book message) ≡ 0) wher
   unfolding messageRight seriesRight
   series-kinds = all-imply _ _ (λ y q. and-left _ _ (and-left _ _ q)) (seriesOf message) (every-all _ _ (and-right _ _ is-message))
 
+  series-slots : All (λ y. isSeriesOf 0 y ≡ true) (seriesOf message)
+  unfolding messageRight seriesRight seriesZerosInMessage sendersSlot number
+  series-slots =
+      all-imply _ _ (λ y q. series-of-yes 0 y (and-left _ _ (and-left _ _ q)) (value-zeros (part 6 2 y) (and-left _ _ (and-right _ _ (and-left _ _ q))))) (seriesOf message)
+      (every-all _ _ (and-right _ _ is-message))
+
   all-present : All (λ x. has (pairIs (pair x)) (seriesOf message) ≡ true) (ownSeries (used book) (sender (headOf message)))
   unfolding rule16 absent
   all-present =
@@ -115,6 +123,7 @@ module _ (book message : Bytes) (e : numberOf (verdict book message) ≡ 0) wher
           series-few = series-count;
           series-whole = series-lengths;
           series-kind = series-kinds;
+          series-slot = series-slots;
           own = own-same (used book) (sender (headOf message)) each-named;
           present = all-present;
         };

@@ -1,17 +1,16 @@
 -- What the code does step by step, over lists of blocks, where its way is not the definition's own.
 use mathlib.Core.Path.{_≡_}
-use mathlib.Core.Bool.{Bool, cond}
-use mathlib.Core.List.{List, [], _∷_, _++_, map}
-use Prim.Native.Nat.{ℕ, _+_}
-use lib.ListN.{length, take}
-use Rattle.laws.specs.Tests.{_and_, _or_, is}
-use Rattle.laws.specs.Lists.{has, keep}
+use mathlib.Core.Bool.{Bool, true, cond}
+use mathlib.Core.List.{List, [], _∷_, _++_}
+use Prim.Native.Nat.{ℕ, zero, suc, _+_, _<_}
+use lib.ListN.{length, take, getD}
+use Rattle.laws.specs.Tests.{_and_, _or_, neg, is}
+use Rattle.laws.specs.Lists.{place, has}
 use Rattle.laws.specs.Loops.{over}
-use Rattle.paper.specs.Layout.{Block, sendersSlot, pair, withSendersSlot, withMark}
-use Rattle.paper.specs.Book.{isSeries, isSeriesOf}
-use Rattle.paper.specs.Rules.{pairIs, isNew}
-use Rattle.paper.specs.Marks.{markIn}
-use Rattle.paper.specs.Acceptance.{senderKept}
+use Rattle.paper.specs.Layout.{Block, sendersSlot, pair, withSendersSlot}
+use Rattle.paper.specs.Book.{isSeries}
+use Rattle.paper.specs.Rules.{pairIs}
+use Rattle.paper.specs.Acceptance.{senderKept, isSeriesOfPair}
 
 -- a is laid over l from place s on, which gives r and ends at e
 pub record Laid (s : ℕ) (a l r : List Block) (e : ℕ) : Type 0 where
@@ -22,13 +21,26 @@ pub record Laid (s : ℕ) (a l r : List Block) (e : ℕ) : Type 0 where
 unfoldable pub senderIfNew : ℕ → Block → List Block → List Block
 senderIfNew known h series = cond (is known 0) (senderKept h series ∷ []) []
 
--- the series that the sender in the slot known has not stored among us, told its slot
-unfoldable pub adopted : ℕ → ℕ → List Block → List Block → List Block
-adopted known slot us series = map (withSendersSlot slot) (keep (isNew (keep (isSeriesOf known) us)) series)
+-- y, told its sender's slot, if it has no place among the stored ones
+unfoldable pub addedAt : ℕ → ℕ → Block → List Block
+addedAt slot stored y = cond (is stored 0) (withSendersSlot slot y ∷ []) []
 
--- y is a series of the sender in a slot, or has the pair of one of its message's series
-unfoldable pub touchedBy : ℕ → List Block → Block → Bool
-touchedBy slot series y = isSeries y and (is (sendersSlot y) slot or has (pairIs (pair y)) series)
+-- those of the first k series
+unfoldable pub addedTo : ℕ → List ℕ → List Block → ℕ → List Block
+addedTo slot places series zero = []
+addedTo slot places series (suc k) = addedTo slot places series k ++ addedAt slot (getD places k 0) (getD series k [])
 
-unfoldable pub remarkedBy : ℕ → ℕ → List Block → List Block → Block → Block
-remarkedBy n slot series l y = cond (touchedBy slot series y) (withMark (markIn n l y) y) y
+-- of each block the number of the first series that has its pair
+unfoldable pub Numbers : List Block → List Block → List ℕ → Type 0
+Numbers us series numbers = (k : ℕ) → k < length us → getD numbers k 0 ≡ place (pairIs (pair (getD us k []))) series
+
+-- y is a series of the sender in a slot, or has a number
+unfoldable pub touchedBy : ℕ → ℕ → Block → Bool
+touchedBy slot number y = isSeries y and (is (sendersSlot y) slot or neg (is number 0))
+
+-- a series of another sender has a number where the sender in the slot has a series with its pair
+unfoldable pub Other : ℕ → List Block → ℕ → Block → Type 0
+Other slot l number y = isSeries y ≡ true → (sendersSlot y ≡ slot → ⊥) → neg (is number 0) ≡ has (isSeriesOfPair slot (pair y)) l
+
+unfoldable pub Others : ℕ → List Block → List ℕ → Type 0
+Others slot l numbers = (k : ℕ) → k < length l → Other slot l (getD numbers k 0) (getD l k [])

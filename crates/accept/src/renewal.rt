@@ -1,40 +1,24 @@
 // "The sender block and changed series replace the stored ones".
 ghost use mathlib.Core.Path.{_≡_};
 ghost use mathlib.Core.List.{map};
-ghost use Prim.Native.Nat.{_≤_};
+ghost use Prim.Native.Nat.{_/_, _≤_};
 ghost use lib.ListN.{length};
 ghost use Rattle.laws.specs.Lists.{place};
 ghost use Rattle.laws.specs.Cut.{cut};
 ghost use Rattle.paper.specs.Layout.{pair, withSendersSlot};
 ghost use Rattle.paper.specs.Rules.{pairIs};
 ghost use Rattle.paper.specs.Acceptance.{senderKept, renewed};
+ghost use Rattle.accept.specs.Steps.{Numbers};
 use super::fields::write_bytes;
 use super::fields::write_senders_slot;
 use block::check::seal;
-use layout::pair;
+use index::wide;
 use layout::sender;
-use marks::pair_is;
 use nets::write_nets;
 use paper::Slot;
 use slots::block_at;
 use slots::is_sender_block_of;
 use slots::is_series_of;
-
-// The number of the message's series that has the pair of b; 0 where none has.
-pub fn number_with_pair(series: &[u8], b: &[u8]) -> usize
-    ensures { λ r. ⌜ r ≡ place (pairIs (pair (now (b .entry)))) (cut 512 (now (series .entry))) ⌝ }
-{
-    let p = pair(b);
-    let many = series.len() / 512;
-    let mut i = 0;
-    while i < many {
-        if pair_is(block_at(series, i), p) {
-            return i + 1;
-        }
-        i += 1;
-    }
-    0
-}
 
 // A message's series as it is kept: told its sender's slot.
 pub fn write_series(block: &mut [u8], y: &[u8], slot: Slot)
@@ -55,9 +39,9 @@ pub fn write_sender(block: &mut [u8], head: &[u8], series: &[u8])
     seal(block);
 }
 
-// One used block, of which most are another sender's and stay.
-fn renew(block: &mut [u8], head: &[u8], series: &[u8], slot: Slot)
-    requires { ⌜ (length (now block) ≡ 512) × (length (now head) ≡ 512) × (length (now series) ≤ 268435456) ⌝ }
+// One used block, of which most are another sender's and stay. `number` is that of the message's series with its pair, 0 where there is none.
+fn renew(block: &mut [u8], head: &[u8], series: &[u8], slot: Slot, number: usize)
+    requires { ⌜ (length (now block) ≡ 512) × (length (now head) ≡ 512) × (length (now series) ≤ 268435456) × (number ≡ place (pairIs (pair (now block))) (cut 512 (now series))) ⌝ }
     ensures { λ _. ⌜ now (block .exit) ≡ renewed (slot .0) (now (head .entry)) (cut 512 (now (series .entry))) (now (block .entry)) ⌝ }
 {
     let own = slot.0;
@@ -66,7 +50,6 @@ fn renew(block: &mut [u8], head: &[u8], series: &[u8], slot: Slot)
         return;
     }
     if is_series_of(block, Slot(own)) {
-        let number = number_with_pair(series, block);
         if number == 0 {
             return;
         }
@@ -76,16 +59,17 @@ fn renew(block: &mut [u8], head: &[u8], series: &[u8], slot: Slot)
 }
 
 // Block by block: what becomes of one is told by it and the message alone.
-pub fn renew_all(us: &mut [u8], head: &[u8], series: &[u8], slot: Slot)
-    requires { ⌜ (length (now head) ≡ 512) × (length (now series) ≤ 268435456) ⌝ }
+pub fn renew_all(us: &mut [u8], head: &[u8], series: &[u8], slot: Slot, numbers: &[u16; 1000])
+    requires { ⌜ (length (now us) / 512 ≤ 1000) × (length (now head) ≡ 512) × (length (now series) ≤ 268435456) × Numbers (cut 512 (now us)) (cut 512 (now series)) (now numbers) ⌝ }
     ensures { λ _. ⌜ cut 512 (now (us .exit)) ≡ map (renewed (slot .0) (now (head .entry)) (cut 512 (now (series .entry)))) (cut 512 (now (us .entry))) ⌝ }
 {
     let own = slot.0;
     let many = us.len() / 512;
     let mut i = 0;
     while i < many {
+        let number = wide(numbers[i]);
         let start = 512 * i;
-        renew(&mut us[start..start + 512], head, series, Slot(own));
+        renew(&mut us[start..start + 512], head, series, Slot(own), number);
         i += 1;
     }
 }

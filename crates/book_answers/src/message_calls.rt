@@ -1,7 +1,9 @@
 // The calls on a message alone: reader and walk.
 use block::check::check_step;
 use block::numbers::number_2;
-use message::series_numbered;
+use reader::readable;
+use reader::series_at;
+use reader::series_numbered;
 use stream::fields::rest_from;
 use stream::line;
 
@@ -29,12 +31,13 @@ pub struct Walk {
     pub sum: u32,
 }
 
-// Up to the first empty part. No message has more than 200 series.
+// Up to the first empty part. No message has more than 200 series, and rule 2 is judged once for all of them.
 fn walked(message: &[u8]) -> Walk {
+    let read = readable(message);
     let mut count = 0;
     let mut sum = 0u32;
     while count < 200 {
-        let series = series_numbered(message, count + 1);
+        let series = series_at(read, count + 1);
         if series.len() == 0 {
             return Walk { count, sum };
         }

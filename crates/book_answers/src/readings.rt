@@ -1,5 +1,6 @@
 // The calls that read the book.
 use block::numbers::number_2;
+use field::part_of;
 use paper::Position;
 use stream::fields::name;
 use stream::fields::name_end;
@@ -62,8 +63,13 @@ fn plain_run(book: &[u8], line: &mut [u8]) {
     line::end(line, at);
 }
 
-fn listing(_book: &[u8], line: &mut [u8]) {
-    line::absent(line, b"listing");
+// The buffer is never too short (listing_text, specs/Bound).
+fn listing(book: &[u8], line: &mut [u8]) {
+    let mut text = [0u8; 5590];
+    let n = listing_text::listing(book, &mut text);
+    let at = line::text(line, 0, b"listing");
+    let at = line::bytes(line, at, part_of(&text, 0, n));
+    line::end(line, at);
 }
 
 fn sound(book: &[u8], line: &mut [u8]) {

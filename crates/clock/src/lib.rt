@@ -5,12 +5,12 @@ ghost use Rattle.paper.specs.Clock.{dayState, advanced, clockAnswer, clockMoved
 use block::check::seal;
 use block::numbers::write_2;
 use field::part_of;
+use forms::ranges::clock_allowed;
 use layout::lead;
 use layout::n_of;
 use paper::ClockAnswer;
 use paper::DayState;
 use paper::Minute;
-use sound::ranges::clock_allowed;
 use sound::sound;
 
 // n, lead and clock as the day block keeps them.

@@ -1,18 +1,23 @@
 // The calls on a day book.
 ghost use mathlib.Core.Path.{_≡_};
+ghost use lib.ListN.{length};
 ghost use Rattle.paper.specs.Sound.{sound};
 ghost use Rattle.paper.specs.Opening.{openNumber, opened};
 ghost use Rattle.paper.specs.Clock.{clockAnswer, clockMoved};
 ghost use Rattle.paper.specs.Readings.{markAnswer};
 ghost use Rattle.paper.specs.Finals.{final};
 ghost use Rattle.paper.specs.PlainRun.{plainRun};
-ghost use Rattle.export.specs.Slots.{acceptedSlot};
+ghost use Rattle.paper.specs.Listing.{listing};
+ghost use Rattle.listing_text.specs.Text.{textLength, textInto};
+ghost use Rattle.paper.specs.Rules.{verdict};
+ghost use Rattle.paper.specs.Acceptance.{submitted};
 use paper::ClockAnswer;
 use paper::FinalAnswer;
 use paper::MarkAnswer;
 use paper::Minute;
 use paper::PlainRunAnswer;
 use paper::Position;
+use paper::Verdict;
 
 #[no_mangle]
 pub extern "C" fn tetherbay_sound(book: &[u8]) -> bool
@@ -43,21 +48,25 @@ pub extern "C" fn tetherbay_clock(book: &mut [u8], minute: u16) -> ClockAnswer
 }
 
 #[no_mangle]
+pub extern "C" fn tetherbay_submit(book: &mut [u8], message: &[u8]) -> Verdict
+    ensures { λ r. ⌜ (r ≡ verdict (now (book .entry)) (now (message .entry))) × (now (book .exit) ≡ submitted (now (book .entry)) (now (message .entry))) ⌝ }
+{
+    submit::submit(book, message)
+}
+
+// The verdict alone, for whoever asks before submitting.
+#[no_mangle]
+pub extern "C" fn tetherbay_judge(book: &[u8], message: &[u8]) -> Verdict
+    ensures { λ r. ⌜ r ≡ verdict (now (book .entry)) (now (message .entry)) ⌝ }
+{
+    judge::verdict(book, message)
+}
+
+#[no_mangle]
 pub extern "C" fn tetherbay_mark(book: &[u8], sender: &[u8], id: &[u8]) -> MarkAnswer
     ensures { λ r. ⌜ r ≡ markAnswer (now (book .entry)) (now (sender .entry)) (now (id .entry)) ⌝ }
 {
     read::mark(book, sender, id)
-}
-
-// The accepted block is the 512 bytes from 512 times its slot on.
-#[no_mangle]
-pub extern "C" fn tetherbay_accepted_slot(book: &[u8], sender: &[u8], id: &[u8]) -> usize
-    ensures { λ r. ⌜ r ≡ acceptedSlot (now (book .entry)) (now (sender .entry)) (now (id .entry)) ⌝ }
-{
-    if !sound::sound(book) {
-        return 0;
-    }
-    read::stored_as(read::used(book), sender, id).0
 }
 
 #[no_mangle]
@@ -77,4 +86,11 @@ pub extern "C" fn tetherbay_plain_run(book: &[u8]) -> PlainRunAnswer
     ensures { λ r. ⌜ r ≡ plainRun (now (book .entry)) ⌝ }
 {
     plain_run::plain_run(book)
+}
+
+#[no_mangle]
+pub extern "C" fn tetherbay_listing(book: &[u8], buffer: &mut [u8]) -> usize
+    ensures { λ r. ⌜ (r ≡ textLength (listing (now (book .entry))) (length (now (buffer .entry)))) × (now (buffer .exit) ≡ textInto (listing (now (book .entry))) (now (buffer .entry))) ⌝ }
+{
+    listing_text::listing(book, buffer)
 }

@@ -10,6 +10,7 @@ ghost use Rattle.paper.specs.QuantityText.{quantityRead, quantityPrinted, print
 ghost use Rattle.paper.specs.Codes.{reasonCode};
 
 pub mod book;
+pub mod parts;
 
 use paper::QuantityPrinted;
 use paper::QuantityRead;

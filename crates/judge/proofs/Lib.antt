@@ -1,5 +1,6 @@
 pub mod Laws
+pub mod Lasts
+pub mod Otherwise
 pub mod Walk
-pub mod Parts
-pub mod Judged
+pub mod Joined
 pub mod Whole

@@ -1,12 +1,9 @@
 -- Rules 7 to 15, series by series: those passed by are what is seen of the message, and none of them is refused.
-use mathlib.Core.Path.{_≡_, refl, sym, ap, ap₂, _∙_}
+use mathlib.Core.Path.{_≡_, refl, sym, ap, _∙_}
 use mathlib.Core.List.{List, []}
-use Prim.Native.Nat.{ℕ, _+_, _*_, _/_, _≤_, _<_}
-use native.Mathlib.Omega.{arith}
+use Prim.Native.Nat.{ℕ, _+_, _/_, _≤_, _<_}
 use lib.ListN.{length, take, drop, getD}
-use Rattle.laws.specs.Bytes.{part}
 use Rattle.laws.specs.Cut.{cut}
-use Rattle.laws.specs.Cut.Laws.{take-cut}
 use Rattle.laws.specs.Loops.{Step, End, step-cut-at, step-take, end-cut}
 use Rattle.paper.specs.declared.Verdict.{Verdict}
 use Rattle.paper.specs.Layout.{Bytes, Block}
@@ -15,22 +12,21 @@ use Rattle.judge.proofs.Laws.{then-hit, then-pass}
 
 module _ (d : Block) (own : List Block) (h : Block) (b : Bytes) where
   each : {w : Verdict} (i : ℕ) → w ≡ eachSeries d own h (take i (cut 512 b)) (i + 1) (drop i (cut 512 b)) → i < length b / 512
-      → w ≡ (seriesVerdict d own h (cut 512 (part 0 (512 * i) b)) (i + 1) (getD (cut 512 b) i []) then eachSeries d own h (take (i + 1) (cut 512 b)) (i + 1 + 1) (drop (i + 1) (cut 512 b)))
-  unfolding eachSeries part
+      → w ≡ (seriesVerdict d own h (take i (cut 512 b)) (i + 1) (getD (cut 512 b) i []) then eachSeries d own h (take (i + 1) (cut 512 b)) (i + 1 + 1) (drop (i + 1) (cut 512 b)))
+  unfolding eachSeries
   each i e k =
       let s : Step (cut 512 b) i (getD (cut 512 b) i []) = step-cut-at 512 b i k in
-      let q : i ≤ length b / 512 = omega arith in
       e ∙ ap (eachSeries d own h (take i (cut 512 b)) (i + 1)) (s .rest)
-      ∙ ap₂ (λ u v. seriesVerdict d own h u (i + 1) (getD (cut 512 b) i []) then eachSeries d own h v (i + 1 + 1) (drop (i + 1) (cut 512 b)))
-      (sym (take-cut 512 b i q)) (sym (step-take (cut 512 b) i _ s))
+      ∙ ap (λ v. seriesVerdict d own h (take i (cut 512 b)) (i + 1) (getD (cut 512 b) i []) then eachSeries d own h v (i + 1 + 1) (drop (i + 1) (cut 512 b)))
+      (sym (step-take (cut 512 b) i _ s))
 
   pub each-go : {w : Verdict} (v : Verdict) (i : ℕ) → w ≡ eachSeries d own h (take i (cut 512 b)) (i + 1) (drop i (cut 512 b)) → i < length b / 512
-      → v ≡ seriesVerdict d own h (cut 512 (part 0 (512 * i) b)) (i + 1) (getD (cut 512 b) i []) → v .number ≡ 0
+      → v ≡ seriesVerdict d own h (take i (cut 512 b)) (i + 1) (getD (cut 512 b) i []) → v .number ≡ 0
       → w ≡ eachSeries d own h (take (i + 1) (cut 512 b)) (i + 1 + 1) (drop (i + 1) (cut 512 b))
   each-go v i e k q z = each i e k ∙ sym (then-pass q z refl)
 
   pub each-hit : {w : Verdict} (v : Verdict) (i : ℕ) → w ≡ eachSeries d own h (take i (cut 512 b)) (i + 1) (drop i (cut 512 b)) → i < length b / 512
-      → v ≡ seriesVerdict d own h (cut 512 (part 0 (512 * i) b)) (i + 1) (getD (cut 512 b) i []) → (v .number ≡ 0 → ⊥) → v ≡ w
+      → v ≡ seriesVerdict d own h (take i (cut 512 b)) (i + 1) (getD (cut 512 b) i []) → (v .number ≡ 0 → ⊥) → v ≡ w
   each-hit v i e k q z = then-hit _ q z ∙ sym (each i e k)
 
   pub each-end : {w : Verdict} (i : ℕ) → w ≡ eachSeries d own h (take i (cut 512 b)) (i + 1) (drop i (cut 512 b)) → length b / 512 ≤ i → fine ≡ w

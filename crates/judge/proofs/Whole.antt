@@ -2,23 +2,27 @@
 use mathlib.Core.Path.{_≡_, refl, sym, ap, ap₂, _∙_}
 use mathlib.Core.Bool.{Bool, true, false}
 use mathlib.Core.List.{List}
-use Prim.Native.Nat.{ℕ, _-_, _*_, _/_, _≤_, _<_}
+use Prim.Native.Nat.{ℕ, suc, _-_, _*_, _/_, _≤_, _<_}
 use native.Mathlib.Omega.{arith}
 use lib.ListN.{length, take, drop, length-drop, take-append-drop}
-use Rattle.laws.specs.Tests.Laws.{neg-true, neg-false}
+use Rattle.laws.specs.Tests.Laws.{and-left, and-right, neg-no, neg-true, neg-false, upto-yes}
 use Rattle.laws.specs.Lists.{until, count, All}
-use Rattle.laws.specs.Lists.Laws.{until-length, until-take, until-has, count-append, count-keep, keep-none, keep-all}
-use Rattle.laws.specs.Bytes.{part}
+use Rattle.laws.specs.Lists.Laws.{all-imply, every-all, until-length, until-take, until-has, count-append, count-keep, keep-none, keep-all}
+use Rattle.laws.specs.Bytes.{part, number}
 use Rattle.laws.specs.Bytes.Laws.{part-rest}
 use Rattle.laws.specs.Cut.{cut}
 use Rattle.laws.specs.Cut.Laws.{cut-length, take-cut}
 use Rattle.paper.specs.declared.Verdict.{Verdict}
-use Rattle.paper.specs.Layout.{Bytes, Block, sender}
-use Rattle.paper.specs.Book.{dayBlock, slots, isFree, used, freeSlots, ownSender, ownSeries}
+use Rattle.paper.specs.Layout.{Bytes, Block, sender, sendersSlot, seriesZerosInMessage}
+use Rattle.paper.specs.Ranges.{wholeBlocks}
+use Rattle.paper.specs.Book.{dayBlock, slots, isFree, used, freeSlots, slotOf, ownSender, ownSeries}
 use Rattle.paper.specs.Sound.{sound}
-use Rattle.paper.specs.Message.{headOf, seriesOf, rule2}
+use Rattle.paper.specs.Message.{headOf, seriesOf, seriesRight, messageRight, rule2}
 use Rattle.paper.specs.Rules.{numberOf, _then_, broken, rule1, judge, verdict}
+use Rattle.facts.specs.Book.{series-of-yes, slots-length}
+use Rattle.facts.specs.Layout.{value-zeros}
 use Rattle.facts.specs.Sound.{sound-says}
+use Rattle.judge.specs.Looked.{Taken, Handed, PassedIf}
 use Rattle.judge.proofs.Laws.{then-hit, then-pass}
 
 -- ---- how many pass, where all pass behind the first that does
@@ -42,6 +46,10 @@ module _ (b s : Bytes) (k : ℕ) (e : s ≡ part 512 (length b) b) (q : k ≡ le
   used-part us f =
       let h : k ≤ length s / 512 = omega (arith, until-length isFree (cut 512 s), cut-length 512 s) in
       ap (cut 512) f ∙ take-cut 512 s k h ∙ until-take isFree (cut 512 s) k q ∙ ap (until isFree) row
+
+  pub used-many : (us : Bytes) → us ≡ part 0 (512 * k) s → k ≡ length (cut 512 us)
+  unfolding used
+  used-many us f = q ∙ ap (λ l. length (until isFree l)) row ∙ sym (ap length (used-part us f))
 
   pub free-count : sound b ≡ true → length s / 512 - k ≡ freeSlots b
   unfolding freeSlots used
@@ -71,3 +79,38 @@ module _ (b m : Bytes) where
       → v ≡ judge d (ownSender us (sender h)) (ownSeries us (sender h)) free h series → v ≡ verdict b m
   unfolding verdict rule1
   judged-by q p a c f g s e = kept _ 1 (neg-false _ q) (kept _ 2 p (e ∙ rw (a, c, f, g, s)))
+
+-- ---- what the rules on series stand on, and what is handed on
+
+no-slot : (y : Block) → seriesZerosInMessage y ≡ true → sendersSlot y ≡ 0
+unfolding seriesZerosInMessage sendersSlot number
+no-slot y e = value-zeros _ (and-left _ _ e)
+
+series-count : (m : Bytes) → length (seriesOf m) ≡ length m / 512 - 1
+unfolding seriesOf
+series-count m = omega (arith, cut-length 512 (drop 512 m), length-drop 512 m)
+
+pub taken : (b m : Bytes) {us series : List Block} → sound b ≡ true → rule2 m ≡ false → us ≡ used b → series ≡ seriesOf m → Taken us series
+unfolding rule2 messageRight wholeBlocks used seriesRight
+taken b m q p e f =
+    let s = sound-says b q in
+    let w : messageRight m ≡ true = neg-no _ p in
+    let k = and-left _ _ (and-left _ _ (and-left _ _ w)) in
+    let t : length m / 512 ≤ 201 = upto-yes _ _ (and-right _ _ k) in
+    record {
+      few = rw e (omega (arith, s .most, until-length isFree (slots b), slots-length b));
+      short = rw f (omega (arith, series-count m));
+      apart = rw e (s .series);
+      kinds = rw f (all-imply _ _ (λ y r. series-of-yes 0 y (and-left _ _ (and-left _ _ r)) (no-slot y (and-right _ _ (and-left _ _ r)))) (seriesOf m) (every-all _ _ (and-right _ _ w)));
+    }
+
+pub passed-none : {v : Verdict} {b m : Bytes} {many slot : ℕ} {places numbers : List ℕ} (n : ℕ) → v ≡ broken true (suc n) 0 0 → PassedIf v b m many slot places numbers
+unfolding broken
+passed-none n e = record { passed = λ z. absurd (let y : suc n ≡ 0 = sym (ap numberOf e) ∙ z in omega arith) }
+
+pub passed-on : {v : Verdict} (b m : Bytes) {us series : List Block} {h : Block} {many slot : ℕ} {places numbers : List ℕ} → us ≡ used b → series ≡ seriesOf m → h ≡ headOf m → many ≡ length us
+    → slot ≡ slotOf us (sender h) → Handed v slot us series places numbers → PassedIf v b m many slot places numbers
+passed-on b m e f g n k a = record {
+  passed = λ z.
+      record { many-used = n ∙ ap length e; senders-slot = k ∙ ap₂ (λ u x. slotOf u (sender x)) e g; stored = rw (e, f) at (a .on z .0); named = rw (e, f) at (a .on z .1) };
+}

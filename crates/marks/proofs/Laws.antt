@@ -1,16 +1,24 @@
--- The first difference position by position, and the mark from the numbers that the code finds.
+-- A counterpart is linked in the bucket of its pair; the first difference position by position, and the mark from the numbers that the code finds.
 use Rattle.laws.specs.Kit.{_≡_, refl, sym, ap, _∙_, true, cond, List, [], _∷_, ℕ, _+_, _-_, _≤_, _<_, arith}
 use Prim.Native.Nat.{zero, suc}
 use Rattle.laws.specs.Tests.{is}
-use Rattle.laws.specs.Tests.Laws.{is-equal, is-other, is-same}
+use Rattle.laws.specs.Tests.Laws.{is-equal, is-other, is-same, and-left, and-right, and-both}
 use Rattle.laws.specs.Lists.{same}
 use Rattle.laws.specs.Lists.Laws.{same-yes, has-no-find, place-none, place-find}
 use Rattle.laws.specs.Bytes.{little}
 use Rattle.paper.specs.Layout.{Bytes, Block, quantities, entry, quantity}
 use Rattle.paper.specs.Book.{numbered}
-use Rattle.paper.specs.Marks.{counterpart, counterpartSlot, differenceFrom, firstDifference, markOf, markIn}
+use Rattle.paper.specs.Rules.{pairIs}
+use Rattle.paper.specs.Marks.{isCounterpart, counterpart, counterpartSlot, differenceFrom, firstDifference, markOf, markIn}
 use Rattle.facts.specs.Layout.{entry-quantities}
+use Rattle.index.specs.Linked.{bucket, seriesIn}
 use Rattle.slots.proofs.Laws.{numbered-some}
+
+-- ---- the bucket of a counterpart
+
+pub counterpart-linked : (slot : ℕ) (p : Bytes) (x : Block) → isCounterpart slot p x ≡ true → seriesIn (bucket p) x ≡ true
+unfolding isCounterpart pairIs seriesIn
+counterpart-linked slot p x e = and-both _ _ (and-left _ _ (and-left _ _ e)) (is-equal _ _ (ap bucket (same-yes _ _ (and-right _ _ e))))
 
 -- ---- the first difference
 

@@ -1,13 +1,17 @@
 // The marks of "Marks and finals", worked out afresh: a series' counterpart among the used slots, the first position at which the two
 // differ, and the mark that this gives.
 ghost use mathlib.Core.Path.{_≡_};
-ghost use Prim.Native.Nat.{_≤_};
+ghost use Prim.Native.Nat.{_/_, _≤_};
+ghost use lib.ListN.{length};
 ghost use Rattle.laws.specs.Cut.{cut};
 ghost use Rattle.paper.specs.Layout.{quantities};
 ghost use Rattle.paper.specs.Rules.{pairIs};
 ghost use Rattle.paper.specs.Marks.{isCounterpart, counterpartSlot, firstDifference, markIn};
 ghost use Rattle.paper.specs.PlainRun.{markTrue};
+ghost use Rattle.index.specs.Linked.{seriesIn, Links};
 use field::same;
+use index::bucket;
+use index::wide;
 use layout::mark;
 use layout::pair;
 use layout::quantities;
@@ -39,21 +43,21 @@ pub fn is_counterpart(y: &[u8], slot: Slot, p: &[u8]) -> bool
     pair_is(y, p)
 }
 
-// The slot of the other party's series; 0 where it has none.
-pub fn counterpart_slot(us: &[u8], x: &[u8]) -> Slot
+// The slot of the other party's series; 0 where it has none. It is sought among the series of the pair's bucket alone.
+pub fn counterpart_slot(us: &[u8], x: &[u8], heads: &[u16; 1024], nexts: &[u16; 1000]) -> Slot
+    requires { ⌜ (length (now us) / 512 ≤ 1000) × Links seriesIn (cut 512 (now us)) 0 (now heads) (now nexts) ⌝ }
     ensures { λ r. ⌜ r .0 ≡ counterpartSlot (cut 512 (now (us .entry))) (now (x .entry)) ⌝ }
 {
     let slot = senders_slot(x).0;
     let p = pair(x);
-    let many = us.len() / 512;
-    let mut i = 0;
-    while i < many {
-        if is_counterpart(block_at(us, i), Slot(slot), p) {
-            return Slot(i + 1);
+    let mut at = wide(heads[bucket(p)]);
+    while at != 0 {
+        if is_counterpart(block_at(us, at - 1), Slot(slot), p) {
+            return Slot(at);
         }
-        i += 1;
+        at = wide(nexts[at - 1]);
     }
-    Slot(0)
+    Slot(at)
 }
 
 // The lowest of n positions at which two series differ; 0 where they agree. Two that agree, as most do, are compared as bytes.
@@ -75,11 +79,11 @@ pub fn first_difference(n: usize, a: &[u8], b: &[u8]) -> Position
 }
 
 // State, first and partner as the block keeps them: 1 alone, 2 matched, 3 mismatched.
-pub fn mark_in(n: usize, us: &[u8], x: &[u8]) -> [u8; 4]
-    requires { ⌜ n ≤ 100 ⌝ }
+pub fn mark_in(n: usize, us: &[u8], x: &[u8], heads: &[u16; 1024], nexts: &[u16; 1000]) -> [u8; 4]
+    requires { ⌜ (n ≤ 100) × (length (now us) / 512 ≤ 1000) × Links seriesIn (cut 512 (now us)) 0 (now heads) (now nexts) ⌝ }
     ensures { λ r. ⌜ r ≡ markIn n (cut 512 (now (us .entry))) (now (x .entry)) ⌝ }
 {
-    let partner = counterpart_slot(us, x).0;
+    let partner = counterpart_slot(us, x, heads, nexts).0;
     if partner == 0 {
         return [1, 0, 0, 0];
     }
@@ -96,13 +100,13 @@ pub fn mark_in(n: usize, us: &[u8], x: &[u8]) -> [u8; 4]
 }
 
 // A block that is no series has no mark to be wrong.
-pub fn mark_true(n: usize, us: &[u8], x: &[u8]) -> bool
-    requires { ⌜ n ≤ 100 ⌝ }
+pub fn mark_true(n: usize, us: &[u8], x: &[u8], heads: &[u16; 1024], nexts: &[u16; 1000]) -> bool
+    requires { ⌜ (n ≤ 100) × (length (now us) / 512 ≤ 1000) × Links seriesIn (cut 512 (now us)) 0 (now heads) (now nexts) ⌝ }
     ensures { λ r. ⌜ r ≡ markTrue n (cut 512 (now (us .entry))) (now (x .entry)) ⌝ }
 {
     if !is_series(x) {
         return true;
     }
-    let due = mark_in(n, us, x);
+    let due = mark_in(n, us, x, heads, nexts);
     same(mark(x), &due)
 }

@@ -1,20 +1,18 @@
-// Rule 2, and the walk over a message's series.
+// Rule 2, and the parts of a message.
 ghost use mathlib.Core.Path.{_≡_};
 ghost use Rattle.laws.specs.Lists.{every};
 ghost use Rattle.laws.specs.Cut.{cut};
-ghost use Rattle.paper.specs.Message.{headOf, seriesOf, headRight, seriesRight, messageRight, rule2, seriesNumbered};
+ghost use Rattle.paper.specs.Message.{headOf, seriesOf, headRight, seriesRight, messageRight, rule2};
 use block::check::checks_right;
 use field::part_of;
+use forms::ranges::whole_blocks;
 use layout::n_of;
 use layout::sender_zeros_in_message;
 use layout::series_count;
 use layout::series_zeros_in_message;
-use paper::Slot;
 use slots::block_at;
 use slots::is_sender;
 use slots::is_series;
-use slots::numbered;
-use sound::ranges::whole_blocks;
 
 // The sender's block; of a message that is too short, what there is.
 pub fn head_of(message: &[u8]) -> &[u8]
@@ -78,14 +76,4 @@ pub fn rule_2(message: &[u8]) -> bool
     ensures { λ r. ⌜ r ≡ rule2 (now (message .entry)) ⌝ }
 {
     !message_right(message)
-}
-
-// A reader needs no fact of the message: past the last series, or where rule 2 is broken, there is no block.
-pub fn series_numbered(message: &[u8], number: usize) -> &[u8]
-    ensures { λ r. ⌜ now r ≡ seriesNumbered (now (message .entry)) number ⌝ }
-{
-    if rule_2(message) {
-        return part_of(message, 0, 0);
-    }
-    numbered(series_of(message), Slot(number))
 }

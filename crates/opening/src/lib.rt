@@ -11,9 +11,9 @@ use block::numbers::write_2;
 use eic::eic_valid_with;
 use eic::values;
 use field::day_well_formed;
-use sound::ranges::lead_allowed;
-use sound::ranges::n_allowed;
-use sound::ranges::whole_blocks;
+use forms::ranges::lead_allowed;
+use forms::ranges::n_allowed;
+use forms::ranges::whole_blocks;
 
 // The parameters are judged themselves, before any block is made of them: a refusal writes nothing.
 fn opening_allowed(n: u8, lead: u16, day: &[u8], area: &[u8], receiver: &[u8]) -> bool

@@ -1,14 +1,18 @@
-// "The plain run works marks and nets out afresh for any sound book and says yes exactly when all kept ones are true." It searches each series'
-// counterpart and each sender's series among all used slots, so its cost grows with their square: of 1,000 slots, up to a million looks at
-// a kind and a sender's slot. Thirty-two bytes of a pair are compared only where both fit.
+// "The plain run works marks and nets out afresh for any sound book and says yes exactly when all kept ones are true." Each series' counterpart is
+// sought among the few series of its pair's bucket, each sender's series among all used slots: of these only the kind and the sender's slot are looked
+// at where they are another's.
 ghost use mathlib.Core.Path.{_≡_};
-ghost use Prim.Native.Nat.{_≤_};
+ghost use Prim.Native.Nat.{_-_, _/_, _≤_};
 ghost use lib.ListN.{length};
 ghost use Rattle.laws.specs.Lists.{every};
 ghost use Rattle.laws.specs.Cut.{cut};
 ghost use Rattle.paper.specs.Book.{used};
 ghost use Rattle.paper.specs.PlainRun.{markTrue, netsTrue, plainRun};
+ghost use Rattle.index.specs.Linked.{seriesIn, Links};
 use field::part_of;
+use index::link_series;
+use index::no_heads;
+use index::no_nexts;
 use layout::n_of;
 use marks::mark_true;
 use nets::nets_true;
@@ -19,7 +23,7 @@ use sound::sound;
 
 // The blocks in the used slots, of a book of any length.
 fn used_slots(book: &[u8]) -> &[u8]
-    ensures { λ r. ⌜ (cut 512 (now r) ≡ used (now (book .entry))) × (length (now r) ≤ length (now (book .entry))) ⌝ }
+    ensures { λ r. ⌜ (cut 512 (now r) ≡ used (now (book .entry))) × (length (now r) ≤ length (now (book .entry)) - 512) ⌝ }
 {
     if book.len() < 512 {
         return &book[..0];
@@ -29,18 +33,29 @@ fn used_slots(book: &[u8]) -> &[u8]
 }
 
 // Goes on past a false mark: in a book that only the desk's calls have written there is none.
-fn every_mark_true(n: usize, us: &[u8]) -> bool
-    requires { ⌜ n ≤ 100 ⌝ }
+fn every_mark_true(n: usize, us: &[u8], heads: &[u16; 1024], nexts: &[u16; 1000]) -> bool
+    requires { ⌜ (n ≤ 100) × (length (now us) / 512 ≤ 1000) × Links seriesIn (cut 512 (now us)) 0 (now heads) (now nexts) ⌝ }
     ensures { λ r. ⌜ r ≡ every (markTrue n (cut 512 (now (us .entry)))) (cut 512 (now (us .entry))) ⌝ }
 {
     let many = us.len() / 512;
     let mut ok = true;
     let mut i = 0;
     while i < many {
-        ok = ok & mark_true(n, us, block_at(us, i));
+        ok = ok & mark_true(n, us, block_at(us, i), heads, nexts);
         i += 1;
     }
     ok
+}
+
+// The series are linked once, for all searches.
+fn marks_true(n: usize, us: &[u8]) -> bool
+    requires { ⌜ (n ≤ 100) × (length (now us) / 512 ≤ 1000) ⌝ }
+    ensures { λ r. ⌜ r ≡ every (markTrue n (cut 512 (now (us .entry)))) (cut 512 (now (us .entry))) ⌝ }
+{
+    let mut heads = no_heads();
+    let mut nexts = no_nexts();
+    link_series(us, &mut heads, &mut nexts);
+    every_mark_true(n, us, &heads, &nexts)
 }
 
 // Goes on in the same way.
@@ -72,6 +87,6 @@ pub fn plain_run(book: &[u8]) -> PlainRunAnswer
     let us = used_slots(book);
     PlainRunAnswer {
         number: 0,
-        holds: every_mark_true(n, us) & every_net_true(us),
+        holds: marks_true(n, us) & every_net_true(us),
     }
 }

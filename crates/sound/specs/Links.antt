@@ -2,13 +2,13 @@
 use mathlib.Core.Path.{_≡_}
 use mathlib.Core.Bool.{Bool, cond}
 use mathlib.Core.List.{List, []}
-use Prim.Native.Nat.{ℕ, _+_, _≤_, _<_}
+use Prim.Native.Nat.{ℕ, _+_, _*_, _%_, _≤_, _<_}
 use lib.ListN.{length, drop, getD}
-use Rattle.laws.specs.Tests.{is}
+use Rattle.laws.specs.Tests.{is, less}
 use Rattle.laws.specs.Lists.{All}
+use Rattle.laws.specs.Bytes.{part, number}
 use Rattle.laws.specs.Loops.{placeFrom}
-use Rattle.paper.specs.Check.{checkFrom}
-use Rattle.paper.specs.Layout.{Block, idOf, sender, sendersSlot, pair}
+use Rattle.paper.specs.Layout.{Bytes, Block, idOf, sender, sendersSlot, pair}
 use Rattle.paper.specs.Book.{isSeries}
 
 -- the series of a sender are the group of its slot; the senders are group 0
@@ -34,11 +34,21 @@ Nexts us i nexts = (j : ℕ) → i ≤ j → j < length us → getD nexts j 0 �
 
 -- ---- numbers that differ where the ids, the pairs or the senders' EICs do, but for a chance
 
+unfoldable pub mixed : ℕ → ℕ → ℕ
+mixed t w = (1000003 * t + w) % 4294967296
+
+-- of a field of sixteen bytes
+unfoldable pub tagOf : Bytes → ℕ
+tagOf s = cond (less (length s) 16) 0 (mixed (mixed (mixed (number 4 0 s) (number 4 4 s)) (number 4 8 s)) (number 4 12 s))
+
+unfoldable pub pairTagOf : Bytes → ℕ
+pairTagOf p = mixed (tagOf (part 0 16 p)) (tagOf (part 16 16 p))
+
 unfoldable pub idTag : Block → ℕ
-idTag b = checkFrom 0 (cond (isSeries b) (idOf b) (sender b))
+idTag b = tagOf (cond (isSeries b) (idOf b) (sender b))
 
 unfoldable pub pairTag : Block → ℕ
-pairTag b = checkFrom 0 (cond (isSeries b) (pair b) (sender b))
+pairTag b = cond (isSeries b) (pairTagOf (pair b)) (tagOf (sender b))
 
 -- those of the first i blocks
 unfoldable pub Tags : List Block → ℕ → List ℕ → List ℕ → Type 0

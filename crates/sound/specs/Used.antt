@@ -1,12 +1,14 @@
 -- The clauses on the used slots, in the order in which the code takes them: the counts come last, when no two senders share an EIC.
 use mathlib.Core.Bool.{Bool, true, cond}
 use mathlib.Core.List.{List}
-use lib.ListN.{length, drop}
+use lib.ListN.{drop}
 use Rattle.laws.specs.Tests.{_and_, _or_}
-use Rattle.laws.specs.Lists.{every, apart, until}
-use Rattle.paper.specs.Layout.{Block}
-use Rattle.paper.specs.Book.{isFree, isSender, isSeries}
-use Rattle.paper.specs.Sound.{senderFields, senderDay, countSound, seriesSound, usedSound, sameSender, sameSeries}
+use Rattle.laws.specs.Lists.{every, apart}
+use Rattle.laws.specs.Bytes.{part}
+use Rattle.paper.specs.Check.{checkRight}
+use Rattle.paper.specs.Layout.{Bytes, Block, blocks}
+use Rattle.paper.specs.Book.{isSender, isSeries}
+use Rattle.paper.specs.Sound.{daySound, senderFields, senderDay, countSound, seriesSound, usedSound, sameSender, sameSeries}
 
 -- a used slot, a sender's count excepted
 unfoldable pub usedFields : Block → List Block → Block → Bool
@@ -27,6 +29,6 @@ linkedSound us = apart clashes us and every (countRight us) us
 unfoldable pub eachUsed : Block → List Block → Bool
 eachUsed d us = every (usedSound d us) us and apart sameSender us and apart sameSeries us
 
--- the clauses on all slots
-unfoldable pub slotsSound : Block → List Block → Bool
-slotsSound d l = every isFree (drop (length (until isFree l)) l) and eachUsed d (until isFree l)
+-- the clauses on the day block and the used slots behind it
+unfoldable pub filledSound : Bytes → Bool
+filledSound b = every checkRight (blocks b) and daySound (part 0 512 b) and eachUsed (part 0 512 b) (blocks (drop 512 b))

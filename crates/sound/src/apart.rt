@@ -45,10 +45,8 @@ fn clash_at(us: &[u8], ids: &[u32; 1000], pairs: &[u32; 1000], i: usize, j: usiz
     requires { ⌜ (length (now us) / 512 ≤ 1000) × Tags (cut 512 (now us)) (length (now us) / 512) (now ids) (now pairs) × (i < length (now us) / 512) × (j < length (now us) / 512) ⌝ }
     ensures { λ r. ⌜ r ≡ clashes (getD (cut 512 (now (us .entry))) i []) (getD (cut 512 (now (us .entry))) j []) ⌝ }
 {
-    if ids[i] != ids[j] {
-        if pairs[i] != pairs[j] {
-            return false;
-        }
+    if (ids[i] != ids[j]) & (pairs[i] != pairs[j]) {
+        return false;
     }
     clashes(block_at(us, i), block_at(us, j))
 }
@@ -64,13 +62,14 @@ fn clear_of_later(
     requires { ⌜ (length (now us) / 512 ≤ 1000) × Nexts (cut 512 (now us)) 0 (now nexts) × Tags (cut 512 (now us)) (length (now us) / 512) (now ids) (now pairs) × (i < length (now us) / 512) ⌝ }
     ensures { λ r. ⌜ r ≡ every (λ y. neg (clashes (getD (cut 512 (now (us .entry))) i []) y)) (drop (i + 1) (cut 512 (now (us .entry)))) ⌝ }
 {
-    let mut ok = true;
     let mut at = i;
     while nexts[at] != 0 {
         at = wide(nexts[at]) - 1;
-        ok = ok & !clash_at(us, ids, pairs, i, at);
+        if clash_at(us, ids, pairs, i, at) {
+            return false;
+        }
     }
-    ok
+    true
 }
 
 pub fn blocks_apart(us: &[u8], nexts: &[u16; 1000], ids: &[u32; 1000], pairs: &[u32; 1000]) -> bool

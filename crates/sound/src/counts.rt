@@ -9,7 +9,7 @@ ghost use Rattle.laws.specs.Cut.{cut};
 ghost use Rattle.sound.specs.Used.{clashes, countRight};
 ghost use Rattle.sound.specs.Links.{inGroup, Heads, Nexts};
 use super::links::wide;
-use super::ranges::count_allowed;
+use forms::ranges::count_allowed;
 use layout::series_count;
 use slots::block_at;
 use slots::is_sender;

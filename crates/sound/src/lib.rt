@@ -1,39 +1,35 @@
 // A sound book: document 01's paragraph, clause by clause.
 ghost use mathlib.Core.Path.{_≡_};
-ghost use Prim.Native.Nat.{_/_, _%_, _≤_};
+ghost use Prim.Native.Nat.{_/_, _≤_};
 ghost use lib.ListN.{length};
 ghost use Rattle.laws.specs.Lists.{every};
 ghost use Rattle.laws.specs.Cut.{cut};
 ghost use Rattle.paper.specs.Layout.{nOf};
 ghost use Rattle.paper.specs.Sound.{sound};
 ghost use Rattle.eic.specs.Table.{IsTable};
-ghost use Rattle.sound.specs.Used.{usedFields, linkedSound, eachUsed, slotsSound};
+ghost use Rattle.sound.specs.Used.{usedFields, linkedSound, eachUsed, filledSound};
 ghost use Rattle.sound.specs.Links.{Grouped};
 
 mod apart;
 mod counts;
-pub mod day;
 mod links;
-pub mod ranges;
-mod sender;
-pub mod series;
 
 use apart::blocks_apart;
 use block::check::checks_right;
 use counts::counts_right;
-use day::day_sound;
 use eic::values;
 use field::all_zero;
 use field::part_of;
+use forms::day::day_sound;
+use forms::ranges::whole_blocks;
+use forms::sender::sender_day;
+use forms::sender::sender_fields;
+use forms::series::series_sound;
 use links::link;
 use links::no_heads;
 use links::no_nexts;
 use links::no_tags;
 use links::tag;
-use ranges::whole_blocks;
-use sender::sender_day;
-use sender::sender_fields;
-use series::series_sound;
 use slots::block_at;
 use slots::is_sender;
 use slots::is_series;
@@ -90,31 +86,32 @@ fn each_used(table: &[u8; 256], d: &[u8], us: &[u8]) -> bool
     linked_sound(us)
 }
 
-// "Used slots first, free ones after": behind the used slots all bytes are 0.
-fn slots_sound(table: &[u8; 256], d: &[u8], s: &[u8]) -> bool
-    requires { ⌜ IsTable (now table) × (nOf (now d) ≤ 100) × (length (now s) % 512 ≡ 0) × (length (now s) / 512 ≤ 1000) ⌝ }
-    ensures { λ r. ⌜ r ≡ slotsSound (now (d .entry)) (cut 512 (now (s .entry))) ⌝ }
+// The day block and the used slots behind it.
+fn filled_sound(filled: &[u8]) -> bool
+    requires { ⌜ (512 ≤ length (now filled)) × (length (now filled) / 512 ≤ 1001) ⌝ }
+    ensures { λ r. ⌜ r ≡ filledSound (now (filled .entry)) ⌝ }
 {
-    let end = 512 * used_count(s);
-    if !all_zero(&s[end..]) {
+    if !checks_right(filled) {
         return false;
     }
-    each_used(table, d, &s[..end])
+    let table = values();
+    let d = part_of(filled, 0, 512);
+    if !day_sound(&table, d) {
+        return false;
+    }
+    each_used(&table, d, &filled[512..])
 }
 
+// "Used slots first, free ones after": behind the used slots all bytes are 0, and the check of a free slot is right.
 pub fn sound(book: &[u8]) -> bool
     ensures { λ r. ⌜ r ≡ sound (now (book .entry)) ⌝ }
 {
     if !whole_blocks(2, 1001, book) {
         return false;
     }
-    if !checks_right(book) {
+    let end = 512 + 512 * used_count(&book[512..]);
+    if !all_zero(&book[end..]) {
         return false;
     }
-    let table = values();
-    let d = part_of(book, 0, 512);
-    if !day_sound(&table, d) {
-        return false;
-    }
-    slots_sound(&table, d, &book[512..])
+    filled_sound(&book[..end])
 }

@@ -7,8 +7,9 @@ ghost use Prim.Native.Nat.{_/_, _≤_, _<_};
 ghost use lib.ListN.{length, getD};
 ghost use Rattle.laws.specs.Cut.{cut};
 ghost use Rattle.paper.specs.Layout.{zeros};
-ghost use Rattle.sound.specs.Links.{group, Grouped, Heads, Nexts, idTag, pairTag, Tags};
-use block::check::check_bytes;
+ghost use Rattle.sound.specs.Links.{group, Grouped, Heads, Nexts, mixed, tagOf, pairTagOf, idTag, pairTag, Tags};
+use block::numbers::number_4;
+use field::part_of;
 use layout::id_of;
 use layout::pair;
 use layout::sender;
@@ -69,22 +70,48 @@ pub fn link(us: &[u8], heads: &mut [u16; 1001], nexts: &mut [u16; 1000])
     }
 }
 
+// Two numbers in one: the second added to the first times a prime.
+fn mixed(t: u32, w: u32) -> u32
+    ensures { λ r. ⌜ r ≡ mixed t w ⌝ }
+{
+    ((1000003 * (t as u64) + w as u64) % 4294967296) as u32
+}
+
+// Of a field of sixteen bytes: their four numbers are read with no further test.
+fn tag_of(s: &[u8]) -> u32
+    ensures { λ r. ⌜ r ≡ tagOf (now (s .entry)) ⌝ }
+{
+    if s.len() < 16 {
+        return 0;
+    }
+    mixed(
+        mixed(mixed(number_4(s, 0), number_4(s, 4)), number_4(s, 8)),
+        number_4(s, 12),
+    )
+}
+
+fn pair_tag_of(p: &[u8]) -> u32
+    ensures { λ r. ⌜ r ≡ pairTagOf (now (p .entry)) ⌝ }
+{
+    mixed(tag_of(part_of(p, 0, 16)), tag_of(part_of(p, 16, 16)))
+}
+
 fn id_tag(b: &[u8]) -> u32
     ensures { λ r. ⌜ r ≡ idTag (now (b .entry)) ⌝ }
 {
     if is_series(b) {
-        return check_bytes(id_of(b));
+        return tag_of(id_of(b));
     }
-    check_bytes(sender(b))
+    tag_of(sender(b))
 }
 
 fn pair_tag(b: &[u8]) -> u32
     ensures { λ r. ⌜ r ≡ pairTag (now (b .entry)) ⌝ }
 {
     if is_series(b) {
-        return check_bytes(pair(b));
+        return pair_tag_of(pair(b));
     }
-    check_bytes(sender(b))
+    tag_of(sender(b))
 }
 
 // Two blocks are compared byte by byte only where their tags agree.

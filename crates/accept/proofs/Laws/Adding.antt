@@ -1,23 +1,22 @@
--- The new blocks: the sender's, where it has no slot yet, then the series that it has not stored, which are sought among the first u slots.
-use mathlib.Core.Path.{_≡_, refl, ap, _∙_}
-use mathlib.Core.Bool.{Bool, true, false}
+-- The new blocks: the sender's, where it has no slot yet, then the series that have no place among the sender's stored ones.
+use mathlib.Core.Path.{_≡_, refl, sym, ap, ap₂, _∙_}
+use mathlib.Core.Bool.{Bool, false}
 use mathlib.Core.List.{List, [], _∷_, _++_, map}
-use Prim.Native.Nat.{ℕ, _+_, _*_, _≤_}
+use Prim.Native.Nat.{ℕ, zero, suc, _+_, _≤_, _<_}
+use native.Mathlib.Numerals.{add-one}
 use native.Mathlib.Omega.{arith}
-use lib.ListN.{length, take, length-append, length-map}
-use Rattle.laws.specs.Tests.{_and_, neg}
-use Rattle.laws.specs.Tests.Laws.{is-equal, is-other}
-use Rattle.laws.specs.Lists.{keep, has}
-use Rattle.laws.specs.Lists.Laws.{keep-append, keep-take-length, map-append, has-keep-and}
-use Rattle.laws.specs.Cut.{cut}
-use Rattle.laws.specs.Loops.{Step, step-take}
-use Rattle.paper.specs.Layout.{Bytes, Block, pair, withSendersSlot}
+use lib.ListN.{length, take, getD, length-append}
+use lib.Seq.{take-suc, take-all}
+use Rattle.laws.specs.Tests.{_and_, neg, is}
+use Rattle.laws.specs.Tests.Laws.{split, is-yes, is-no, is-equal, is-other}
+use Rattle.laws.specs.Lists.{keep, has, place}
+use Rattle.laws.specs.Lists.Laws.{keep-append, map-append, has-keep-and, has-no-place, place-positive}
+use Rattle.paper.specs.Layout.{Block, pair, withSendersSlot}
 use Rattle.paper.specs.Book.{isSeriesOf}
 use Rattle.paper.specs.Rules.{pairIs, isNew}
-use Rattle.paper.specs.Acceptance.{isSeriesOfPair, senderKept}
-use Rattle.accept.specs.Steps.{Laid, senderIfNew, adopted}
-use Rattle.accept.proofs.Laws.Lent.{cut-first}
-use Rattle.accept.proofs.Laws.Laying.{laid-none}
+use Rattle.paper.specs.Acceptance.{senderKept}
+use Rattle.index.specs.Linked.{keyOf, ownWith, Found}
+use Rattle.accept.specs.Steps.{senderIfNew, addedAt, addedTo}
 
 -- ---- the sender's block
 
@@ -30,50 +29,66 @@ module _ (known : ℕ) (h : Block) (series : List Block) where
   unfolding senderIfNew
   sender-known z = rw (is-other known 0 z)
 
--- ---- new series
+-- ---- one series
 
-pub of-pair : (slot : ℕ) (p : Bytes) (b : Block) → isSeriesOfPair slot p b ≡ (isSeriesOf slot b and pairIs p b)
-unfolding isSeriesOfPair isSeriesOf
-of-pair slot p b = refl
+module _ (slot stored : ℕ) (y : Block) where
+  pub added-yes : stored ≡ 0 → addedAt slot stored y ≡ withSendersSlot slot y ∷ []
+  unfolding addedAt
+  added-yes z = rw (is-equal stored 0 z)
 
-pub new-by-search : (known : ℕ) (us : List Block) (y : Block) → isNew (keep (isSeriesOf known) us) y ≡ neg (has (isSeriesOfPair known (pair y)) us)
-unfolding isNew isSeriesOfPair isSeriesOf
-new-by-search known us y = ap neg (has-keep-and (pairIs (pair y)) (isSeriesOf known) us)
+  pub added-no : (stored ≡ 0 → ⊥) → addedAt slot stored y ≡ []
+  unfolding addedAt
+  added-no z = rw (is-other stored 0 z)
 
-module _ (known slot : ℕ) (us : List Block) where
-  pub adopted-start : (s : ℕ) (l : List Block) → s ≤ length l → Laid s (adopted known slot us []) l l s
-  unfolding adopted keep
-  adopted-start s l h = laid-none s l h
+-- a place of 0 says that there is none
+pub no-place : (p : Block → Bool) (l : List Block) → is (place p l) 0 ≡ neg (has p l)
+unfolding neg
+no-place p l = split (has p l) (λ t. rw t (is-other _ _ (λ z. omega (arith, place-positive p l t)))) (λ t. rw t (is-equal _ _ (has-no-place p l t)))
 
-  adopted-append : (l r : List Block) → adopted known slot us (l ++ r) ≡ adopted known slot us l ++ adopted known slot us r
-  unfolding adopted
-  adopted-append l r =
-      ap (map (withSendersSlot slot)) (keep-append (isNew (keep (isSeriesOf known) us)) l r)
-      ∙ map-append (withSendersSlot slot) (keep (isNew (keep (isSeriesOf known) us)) l) (keep (isNew (keep (isSeriesOf known) us)) r)
+new-by-place : (known : ℕ) (us : List Block) (y : Block) → is (place (ownWith known false (keyOf false y)) us) 0 ≡ isNew (keep (isSeriesOf known) us) y
+unfolding isNew ownWith keyOf pairIs
+new-by-place known us y = no-place (ownWith known false (keyOf false y)) us ∙ ap neg (sym (has-keep-and (pairIs (pair y)) (isSeriesOf known) us))
 
-  adopted-fits : (k : ℕ) (l : List Block) → length (adopted known slot us (take k l)) ≤ length (adopted known slot us l)
-  unfolding adopted
-  adopted-fits k l =
-      rw (length-map (keep (isNew (keep (isSeriesOf known) us)) (take k l)) (withSendersSlot slot), length-map (keep (isNew (keep (isSeriesOf known) us)) l) (withSendersSlot slot))
-      (keep-take-length _ l k)
+-- ---- series in turn
 
-  -- one series more
-  pub adopted-more : (l : List Block) (k : ℕ) (y : Block) → Step l k y → adopted known slot us (take (k + 1) l) ≡ adopted known slot us (take k l) ++ adopted known slot us (y ∷ [])
-  adopted-more l k y s = ap (adopted known slot us) (step-take l k y s) ∙ adopted-append (take k l) (y ∷ [])
+module _ (slot : ℕ) (places : List ℕ) (series : List Block) where
+  pub added-more : (k : ℕ) → addedTo slot places series (k + 1) ≡ addedTo slot places series k ++ addedAt slot (getD places k 0) (getD series k [])
+  unfolding addedTo
+  added-more k = rw (add-one k)
 
-  pub adopted-room : (l : List Block) (k : ℕ) (y : Block) → Step l k y → length (adopted known slot us (take k l)) + length (adopted known slot us (y ∷ [])) ≤ length (adopted known slot us l)
-  adopted-room l k y s =
-      omega (arith, adopted-fits (k + 1) l, ap length (adopted-more l k y s), length-append (adopted known slot us (take k l)) (adopted known slot us (y ∷ [])))
+  added-grows : (m k : ℕ) → k ≤ m → length (addedTo slot places series k) ≤ length (addedTo slot places series m)
+  added-grows zero k h = let z : k ≡ 0 = omega arith in rw z (omega arith)
+  added-grows (suc m) k h =
+      split (is k (suc m)) (λ t. rw (is-yes k (suc m) t) (omega arith))
+      (λ t.
+      let d = is-no k (suc m) t in
+      let i : k ≤ m = split (is k (suc m)) (λ u. absurd (d (is-yes k (suc m) u))) (λ u. omega (arith, d)) in
+      let e : suc m ≡ m + 1 = omega arith in
+      rw e (omega (arith, added-grows m k i, ap length (added-more m), length-append (addedTo slot places series m) (addedAt slot (getD places m 0) (getD series m [])))))
 
--- one series, asked of the first u blocks of b
-module _ (known slot u : ℕ) (b : Bytes) (y : Block) (h : 512 * u ≤ length b) {t : Bool} (e : t ≡ isNew (keep (isSeriesOf known) (cut 512 (take (512 * u) b))) y) where
-  told : t ≡ isNew (keep (isSeriesOf known) (take u (cut 512 b))) y
-  told = e ∙ ap (λ us. isNew (keep (isSeriesOf known) us) y) (cut-first b u h)
+  pub added-room : (k m : ℕ) → k < m → length (addedTo slot places series k) + length (addedAt slot (getD places k 0) (getD series k [])) ≤ length (addedTo slot places series m)
+  added-room k m h =
+      omega (arith, added-grows m (k + 1) (omega arith), ap length (added-more k), length-append (addedTo slot places series k) (addedAt slot (getD places k 0) (getD series k [])))
 
-  pub adopted-yes : t ≡ true → adopted known slot (take u (cut 512 b)) (y ∷ []) ≡ withSendersSlot slot y ∷ []
-  unfolding adopted keep
-  adopted-yes f = rw (← told, f)
+  -- with the places that the judgement has found, those added are the new ones
+  module _ (known : ℕ) (us : List Block) (f : Found known false us series places) where
+    abbrev new : Block → Bool
+    new = isNew (keep (isSeriesOf known) us)
 
-  pub adopted-no : t ≡ false → adopted known slot (take u (cut 512 b)) (y ∷ []) ≡ []
-  unfolding adopted keep
-  adopted-no f = rw (← told, f)
+    one-new : (k : ℕ) → k < length series → addedAt slot (getD places k 0) (getD series k []) ≡ map (withSendersSlot slot) (keep new (getD series k [] ∷ []))
+    unfolding addedAt keep
+    one-new k h =
+        rw (f .each k h, new-by-place known us (getD series k []))
+        (split (new (getD series k [])) (λ t. rw t) (λ t. rw t))
+
+    first-new : (k : ℕ) → k ≤ length series → addedTo slot places series k ≡ map (withSendersSlot slot) (keep new (take k series))
+    unfolding addedTo keep
+    first-new zero h = refl
+    first-new (suc k) h =
+        ap₂ _++_ (first-new k (omega arith)) (one-new k (omega arith))
+        ∙ sym (ap (λ r. map (withSendersSlot slot) (keep new r)) (take-suc series k [] (omega arith))
+        ∙ ap (map (withSendersSlot slot)) (keep-append new (take k series) (getD series k [] ∷ []))
+        ∙ map-append (withSendersSlot slot) (keep new (take k series)) (keep new (getD series k [] ∷ [])))
+
+    pub all-new : addedTo slot places series (length series) ≡ map (withSendersSlot slot) (keep new series)
+    all-new = first-new (length series) (omega arith) ∙ ap (λ r. map (withSendersSlot slot) (keep new r)) (take-all (length series) series (omega arith))

@@ -1,46 +1,32 @@
--- The new blocks one after another: the first u slots, of which it is asked whether a series is stored, stay as they were from turn to turn.
-use mathlib.Core.Path.{_≡_, ap}
-use mathlib.Core.List.{List, [], _∷_, _++_}
-use Prim.Native.Nat.{ℕ, _+_, _≤_}
+-- The new blocks one after another.
+use mathlib.Core.Path.{_≡_}
+use mathlib.Core.List.{List, [], _++_}
+use Prim.Native.Nat.{ℕ, _+_, _≤_, _<_}
 use native.Mathlib.Omega.{arith}
-use lib.ListN.{length, take, length-append}
-use Rattle.laws.specs.Loops.{Step}
+use lib.ListN.{length, getD, length-append}
 use Rattle.paper.specs.Layout.{Block}
-use Rattle.accept.specs.Steps.{Laid, senderIfNew, adopted}
-use Rattle.accept.proofs.Laws.Laying.{laid-then, laid-front}
-use Rattle.accept.proofs.Laws.Adding.{adopted-more, adopted-room}
+use Rattle.accept.specs.Steps.{Laid, addedAt, addedTo}
+use Rattle.accept.proofs.Laws.Laying.{laid-then}
+use Rattle.accept.proofs.Laws.Adding.{added-more, added-room}
 
--- the series before k are laid over l from s on, which gives r; y is series k
-module _ (known slot u s : ℕ) (l series : List Block) (k : ℕ) (y : Block) (r : List Block) (next : ℕ) (front : u ≤ s) (inside : s ≤ length l)
-    (i : Laid s (adopted known slot (take u l) (take k series)) l r next) (step : Step series k y) where
-  used-same : take u r ≡ take u l
-  used-same = laid-front s l inside i u front
+-- the series before k are laid over l from s on, which gives r; y is series k, and v its place among the stored ones
+module _ (slot s : ℕ) (places : List ℕ) (l series : List Block) (k : ℕ) (r : List Block) (next : ℕ) (inside : s ≤ length l) (i : Laid s (addedTo slot places series k) l r next)
+    (v : ℕ) (y : Block) (ev : v ≡ getD places k 0) (ey : y ≡ getD series k []) where
+  pub add-room : (m : ℕ) → k < m → next + length (addedAt slot v y) ≤ s + length (addedTo slot places series m)
+  add-room m h = let n : next ≡ s + length (addedTo slot places series k) = i .end in rw (ev, ey) (omega (arith, added-room slot places series k m h))
 
-  pub add-room : next + length (adopted known slot (take u r) (y ∷ [])) ≤ s + length (adopted known slot (take u l) series)
-  add-room =
-      let n : next ≡ s + length (adopted known slot (take u l) (take k series)) = i .end in
-      omega (arith, adopted-room known slot (take u l) series k y step, ap (λ us. length (adopted known slot us (y ∷ []))) used-same)
+  pub add-go : {q : List Block} {f : ℕ} → Laid next (addedAt slot v y) r q f → Laid s (addedTo slot places series (k + 1)) l q f
+  add-go j = rw (added-more slot places series k) (laid-then s l inside i (rw (ev, ey) at j))
 
-  pub add-go : {q : List Block} {f : ℕ} → Laid next (adopted known slot (take u r) (y ∷ [])) r q f → Laid s (adopted known slot (take u l) (take (k + 1) series)) l q f
-  add-go j = rw (adopted-more known slot (take u l) series k y step) (laid-then s l inside i (rw used-same at j))
+-- ---- the sender's block a, then the series b: the room of both
 
--- ---- the sender's block, then the series: the room of both
+module _ (u : ℕ) (l a b : List Block) (room : u + length (a ++ b) ≤ length l) where
+  pub sender-room : u + length a ≤ length l
+  sender-room = omega (arith, length-append a b)
 
-module _ (known slot u : ℕ) (l series : List Block) (h : Block) (room : u + length (senderIfNew known h series ++ adopted known slot (take u l) series) ≤ length l) where
-  both : length (senderIfNew known h series ++ adopted known slot (take u l) series) ≡ length (senderIfNew known h series) + length (adopted known slot (take u l) series)
-  both = length-append (senderIfNew known h series) (adopted known slot (take u l) series)
+  module _ {r : List Block} {e : ℕ} (i : Laid u a l r e) where
+    pub series-room : e + length b ≤ length l
+    series-room = let n : e ≡ u + length a = i .end in omega (arith, length-append a b)
 
-  pub sender-room : u + length (senderIfNew known h series) ≤ length l
-  sender-room = omega (arith, both)
-
-  module _ {r : List Block} {e : ℕ} (i : Laid u (senderIfNew known h series) l r e) where
-    used-kept : take u r ≡ take u l
-    used-kept = laid-front u l (omega arith) i u (omega arith)
-
-    pub series-room : (u ≤ e) × (e + length (adopted known slot (take u r) series) ≤ length l)
-    series-room =
-        let n : e ≡ u + length (senderIfNew known h series) = i .end in
-        (omega arith, omega (arith, both, ap (λ us. length (adopted known slot us series)) used-kept))
-
-    pub both-laid : {q : List Block} {f : ℕ} → Laid e (adopted known slot (take u r) series) r q f → Laid u (senderIfNew known h series ++ adopted known slot (take u l) series) l q f
-    both-laid j = laid-then u l (omega arith) i (rw used-kept at j)
+    pub both-laid : {q : List Block} {f : ℕ} → Laid e b r q f → Laid u (a ++ b) l q f
+    both-laid j = laid-then u l (omega arith) i j

@@ -1,19 +1,15 @@
 -- A part of a list that was lent and is back: one block, or the first blocks.
-use mathlib.Core.Path.{_≡_, refl, sym, ap, ap₂, _∙_}
-use mathlib.Core.Bool.{Bool, true, false, not}
-use mathlib.Core.List.{List, [], _++_, append-assoc}
-use Prim.Native.Nat.{ℕ, _+_, _-_, _*_, _/_, _≤_, _<_}
+use mathlib.Core.Path.{_≡_, sym, ap, ap₂, _∙_}
+use mathlib.Core.List.{List, [], _++_, map, append-assoc}
+use Prim.Native.Nat.{ℕ, suc, _+_, _-_, _*_, _/_, _≤_, _<_}
 use native.Mathlib.Nat.{add-sub-cancel-left}
 use native.Mathlib.Omega.{arith}
-use lib.Dec.{eqb}
-use lib.ListN.{length, take, drop, getD, set}
-use lib.Seq.{drop-drop}
-use borrow.Author.Tests.{eqb-true, eqb-false}
-use Rattle.laws.specs.Lists.{has, place}
-use Rattle.laws.specs.Lists.Laws.{place-none, place-some}
+use lib.ListN.{length, take, drop, getD, set, length-map}
+use lib.Seq.{drop-drop, drop-cons, getD-at, length-take-le}
 use Rattle.laws.specs.Bytes.{written}
 use Rattle.laws.specs.Bytes.Laws.{written-take-drop}
 use Rattle.laws.specs.Cut.{cut}
+use Rattle.laws.specs.Loops.{done}
 use Rattle.slots.proofs.Laws.{block-some}
 use Rattle.laws.specs.Cut.Laws.{cut-put, cut-append, cut-drop, cut-at, take-cut, block-length, width-blocks}
 
@@ -40,11 +36,10 @@ cut-lent-first g b k y h e q =
 pub block-whole : (b : List ℕ) (i : ℕ) → i < length b / 512 → length (getD (cut 512 b) i []) ≡ 512
 block-whole b i h = ap length (cut-at 512 b i h) ∙ block-length 512 b i h
 
--- ---- what a search's answer says
+-- ---- a rewriting in place comes to a block that is as it was
 
-by-zero : {A : Type 0} (p : A → Bool) (l : List A) (t : ℕ) → t ≡ place p l → (b : Bool) → eqb t 0 ≡ b → not b ≡ has p l
-by-zero p l t e true q = sym (place-none p l t e (eqb-true t 0 q))
-by-zero p l t e false q = sym (place-some p l t e (eqb-false t 0 q))
-
-pub place-has : {A : Type 0} (p : A → Bool) (l : List A) {t : ℕ} → t ≡ place p l → not (eqb t 0) ≡ has p l
-place-has p l {t} e = by-zero p l t e (eqb t 0) refl
+pub done-next : {X : Type 0} (g : List X → X → X) (l : List X) (i : ℕ) (d : X) → i < length l → getD (done g l i) i d ≡ getD l i d
+unfolding done
+done-next g l i d h =
+    let z : length (map (g l) (take i l)) ≡ i = length-map (take i l) (g l) ∙ length-take-le i l (omega arith) in
+    ap (λ w. getD (map (g l) (take i l) ++ w) i d) (drop-cons l i d h) ∙ getD-at (map (g l) (take i l)) (getD l i d) (drop (suc i) l) d i z

@@ -1,24 +1,28 @@
 -- A mark is worked out from kind, sender's slot, pair and quantities of the blocks, and a mark that is put right changes none of these: so a list
--- of which some blocks are marked anew gives the same marks.
+-- of which some blocks are marked anew gives the same marks, and its links are the same.
 use mathlib.Core.Path.{_≡_, refl, sym, ap, _∙_}
 use mathlib.Core.Bool.{Bool, true, false}
 use mathlib.Core.Option.{Option, none, some, Option·map}
-use mathlib.Core.List.{List, [], map}
-use Prim.Native.Nat.{ℕ}
+use mathlib.Core.List.{List, [], _∷_, map}
+use Prim.Native.Nat.{ℕ, zero, suc, _+_, _<_}
 use native.Mathlib.Omega.{arith}
-use lib.ListN.{length, getD, set}
+use lib.ListN.{length, drop, getD, set, length-map, List·getD-map}
 use lib.Seq.{set-getD}
-use Rattle.laws.specs.Tests.{_and_, neg, is}
-use Rattle.laws.specs.Tests.Laws.{split}
-use Rattle.laws.specs.Lists.{same, find, place}
-use Rattle.laws.specs.Lists.Laws.{find-map, place-map}
+use Rattle.laws.specs.Tests.{_and_, _or_, neg, is}
+use Rattle.laws.specs.Tests.Laws.{split, is-no}
+use Rattle.laws.specs.Lists.{same, find, has, place}
+use Rattle.laws.specs.Lists.Laws.{find-map, has-map, place-map}
+use Rattle.laws.specs.Loops.{placeFrom, done, done-seen}
 use Rattle.laws.specs.Bytes.Laws.{little-length}
 use Rattle.paper.specs.Layout.{Bytes, Block, kind, sendersSlot, pair, quantities, withMark}
 use Rattle.paper.specs.Book.{isSeries}
 use Rattle.paper.specs.Rules.{pairIs}
 use Rattle.paper.specs.Marks.{isCounterpart, counterpart, counterpartSlot, markOf, markIn}
+use Rattle.paper.specs.Acceptance.{isSeriesOfPair, touched, remarked}
 use Rattle.facts.specs.Layout.{kind-with-mark, senders-slot-with-mark, pair-with-mark, quantities-with-mark}
-use Rattle.accept.specs.Steps.{touchedBy, remarkedBy}
+use Rattle.index.specs.Linked.{bucket, seriesIn, Heads, Nexts, Links}
+use Rattle.accept.specs.Steps.{touchedBy, Other, Others}
+use Rattle.accept.proofs.Laws.Lent.{done-next}
 
 -- ---- what a mark is worked out from
 
@@ -64,24 +68,97 @@ mark-in-length : (n : ℕ) (l : List Block) (x : Block) → length (markIn n l x
 unfolding markIn
 mark-in-length n l x = mark-of-length n (quantities x) (Option·map quantities (counterpart l x)) (counterpartSlot l x)
 
+-- ---- what is touched
+
+isSeriesOfPairView : ℕ → Bytes → View → Bool
+isSeriesOfPairView slot p v = is (v .kind) 2 and is (v .slot) slot and same (v .pair) p
+
+has-view : (slot : ℕ) (p : Bytes) (l : List Block) → has (isSeriesOfPair slot p) l ≡ has (isSeriesOfPairView slot p) (map view l)
+unfolding isSeriesOfPair isSeriesOfPairView view isSeries pairIs
+has-view slot p l = sym (has-map view (isSeriesOfPairView slot p) l)
+
+has-reads : (slot : ℕ) (p : Bytes) (l r : List Block) → map view l ≡ map view r → has (isSeriesOfPair slot p) l ≡ has (isSeriesOfPair slot p) r
+has-reads slot p l r e = rw (has-view slot p l, has-view slot p r, e)
+
+touched-by : (slot : ℕ) (l : List Block) (number : ℕ) (y : Block) → Other slot l number y → touchedBy slot number y ≡ touched slot l y
+unfolding touchedBy touched Other _and_ _or_
+touched-by slot l number y o = split (isSeries y)
+    (λ t. split (is (sendersSlot y) slot) (λ u. rw (t, u)) (λ u. rw (t, u) (o t (is-no _ _ u))))
+    (λ t. rw t)
+
 -- ---- marked anew
 
-module _ (n slot : ℕ) (series : List Block) where
-  pub remarked-reads : (l r : List Block) (y : Block) → map view l ≡ map view r → remarkedBy n slot series l y ≡ remarkedBy n slot series r y
-  unfolding remarkedBy
-  remarked-reads l r y e = rw (mark-reads n l r y e)
+module _ (n slot : ℕ) where
+  pub remarked-reads : (l r : List Block) (y : Block) → map view l ≡ map view r → remarked n slot l y ≡ remarked n slot r y
+  unfolding remarked touched
+  remarked-reads l r y e = rw (mark-reads n l r y e, has-reads slot (pair y) l r e)
 
-  pub remarked-keeps : (l : List Block) (y : Block) → view (remarkedBy n slot series l y) ≡ view y
-  unfolding remarkedBy view
-  remarked-keeps l y = split (touchedBy slot series y)
+  pub remarked-keeps : (l : List Block) (y : Block) → view (remarked n slot l y) ≡ view y
+  unfolding remarked view
+  remarked-keeps l y = split (touched slot l y)
       (λ t. rw (t, kind-with-mark (markIn n l y) y, senders-slot-with-mark (markIn n l y) y, pair-with-mark (markIn n l y) y, quantities-with-mark (markIn n l y) y (mark-in-length n l y)))
       (λ t. rw t)
 
-  module _ (l : List Block) {r : Bool} where
-    pub remarked-yes : (y : Block) {m : Bytes} → r ≡ true → r ≡ touchedBy slot series y → m ≡ markIn n l y → withMark m y ≡ remarkedBy n slot series l y
-    unfolding remarkedBy
-    remarked-yes y t e q = rw (← e, t, q)
+  module _ (l : List Block) (number : ℕ) {r : Bool} where
+    pub remarked-yes : (y : Block) {m : Bytes} → Other slot l number y → r ≡ true → r ≡ touchedBy slot number y → m ≡ markIn n l y → withMark m y ≡ remarked n slot l y
+    unfolding remarked
+    remarked-yes y o t e q = rw (← touched-by slot l number y o, ← e, t, q)
 
-    pub remarked-no : (i : ℕ) → r ≡ false → r ≡ touchedBy slot series (getD l i []) → l ≡ set l i (remarkedBy n slot series l (getD l i []))
-    unfolding remarkedBy
-    remarked-no i t e = rw (← e, t) (sym (set-getD l i []))
+    pub remarked-no : (i : ℕ) → Other slot l number (getD l i []) → r ≡ false → r ≡ touchedBy slot number (getD l i []) → l ≡ set l i (remarked n slot l (getD l i []))
+    unfolding remarked
+    remarked-no i o t e = rw (← touched-by slot l number (getD l i []) o, ← e, t) (sym (set-getD l i []))
+
+-- ---- the links are told by kinds and pairs
+
+seriesInView : ℕ → View → Bool
+seriesInView g v = is (v .kind) 2 and is (bucket (v .pair)) g
+
+place-from-view : (g t : ℕ) (l : List Block) → placeFrom t (seriesIn g) l ≡ placeFrom t (seriesInView g) (map view l)
+unfolding placeFrom seriesIn seriesInView view isSeries
+place-from-view g t [] = refl
+place-from-view g t (x ∷ xs) = rw (place-from-view g (t + 1) xs)
+
+drop-view : (i : ℕ) (l : List Block) → map view (drop i l) ≡ drop i (map view l)
+drop-view zero l = refl
+drop-view (suc i) [] = refl
+drop-view (suc i) (x ∷ xs) = drop-view i xs
+
+series-view : (g : ℕ) (x : Block) → seriesIn g x ≡ seriesInView g (view x)
+unfolding seriesIn seriesInView view isSeries
+series-view g x = refl
+
+module _ (l r : List Block) (e : map view l ≡ map view r) where
+  same-place : (g i : ℕ) → placeFrom i (seriesIn g) (drop i l) ≡ placeFrom i (seriesIn g) (drop i r)
+  same-place g i =
+      place-from-view g i (drop i l) ∙ ap (placeFrom i (seriesInView g)) (drop-view i l ∙ ap (drop i) e ∙ sym (drop-view i r))
+      ∙ sym (place-from-view g i (drop i r))
+
+  same-series : (g j : ℕ) → seriesIn g (getD l j []) ≡ seriesIn g (getD r j [])
+  same-series g j =
+      series-view g (getD l j []) ∙ ap (seriesInView g) (sym (List·getD-map view l j []) ∙ ap (λ k. getD k j (view [])) e ∙ List·getD-map view r j [])
+      ∙ sym (series-view g (getD r j []))
+
+  pub same-links : (h n : List ℕ) → Links seriesIn l 0 h n → Links seriesIn r 0 h n
+  unfolding Heads Nexts
+  same-links h n a =
+      let m : length l ≡ length r = sym (length-map l view) ∙ ap length e ∙ length-map r view in
+      record {
+        begin = λ g c. a .begin g c ∙ same-place g 0;
+        go-on = λ j c d g q. a .go-on j c (omega arith) g (same-series g j ∙ q) ∙ same-place g (j + 1);
+        buckets = a .buckets;
+        many = a .many;
+      }
+
+-- block i of a, the list l of which the first i are marked anew
+module _ (n slot : ℕ) (l a : List Block) (i : ℕ) (e : a ≡ done (remarked n slot) l i) where
+  seen : map view l ≡ map view a
+  seen = sym (ap (map view) e ∙ done-seen view (remarked n slot) (remarked-keeps n slot) (remarked-reads n slot) l i)
+
+  pub links-kept : (h n : List ℕ) → Links seriesIn l 0 h n → Links seriesIn a 0 h n
+  links-kept h n f = same-links l a seen h n f
+
+  pub other-kept : (numbers : List ℕ) → Others slot l numbers → i < length l → {k : ℕ} → k ≡ getD numbers i 0 → Other slot a k (getD a i [])
+  unfolding Others Other
+  other-kept numbers f h q =
+      let y : getD a i [] ≡ getD l i [] = ap (λ k. getD k i []) e ∙ done-next (remarked n slot) l i [] h in
+      rw (q, y) (λ s o. f i h s o ∙ has-reads slot (pair (getD l i [])) l a seen)

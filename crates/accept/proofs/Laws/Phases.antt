@@ -9,15 +9,18 @@ use lib.ListN.{length, take, drop, length-append, length-map}
 use lib.Seq.{take-at, drop-at}
 use Rattle.laws.specs.Tests.{is}
 use Rattle.laws.specs.Tests.Laws.{split, is-equal, is-other}
-use Rattle.laws.specs.Lists.{has}
-use Rattle.laws.specs.Lists.Laws.{all-each, map-agree, has-no-place, place-positive}
+use Rattle.laws.specs.Lists.{has, keep}
+use Rattle.laws.specs.Lists.Laws.{has-no-place, place-positive}
 use Rattle.laws.specs.Loops.{over}
-use Rattle.paper.specs.Layout.{Bytes, Block, sender}
-use Rattle.paper.specs.Book.{isSenderBlockOf, slotOf, ownSeries}
+use Rattle.paper.specs.Layout.{Bytes, Block, sender, withSendersSlot}
+use Rattle.paper.specs.Book.{isSenderBlockOf, isSeriesOf, slotOf, ownSeries}
+use Rattle.paper.specs.Rules.{isNew}
 use Rattle.paper.specs.Acceptance.{slotFor, senderKept, renewed, fresh, placed, remarked, usedAfter}
-use Rattle.accept.specs.Fits.{Placing}
-use Rattle.accept.specs.Steps.{Laid, senderIfNew, adopted, remarkedBy}
-use Rattle.accept.proofs.Laws.Touching.{remarked-same}
+use Rattle.accept.specs.Fits.{Placing, Handed}
+use Rattle.accept.specs.Steps.{Laid, senderIfNew, addedTo, Numbers, Others}
+use Rattle.accept.proofs.Laws.Adding.{all-new}
+use Rattle.accept.proofs.Laws.Renewing.{numbers-found}
+use Rattle.accept.proofs.Laws.Touching.{others}
 
 -- ---- the sender's slot, as the code finds it
 
@@ -36,52 +39,66 @@ module _ (us : List Block) (e : Bytes) (known u : ℕ) (k : known ≡ slotOf us 
 
 -- ---- the phases, over lists of blocks: l are all slots, us the used ones
 
-module _ (n : ℕ) (l us : List Block) (h : Block) (series : List Block) (p : Placing n (length l) us h series) (u : ℕ) (f : take u l ≡ us) (eu : u ≡ length us)
-    (known : ℕ) (k : known ≡ slotOf us (sender h)) (slot : ℕ) (s : slot ≡ cond (is known 0) (u + 1) known) where
-  slot-is : slot ≡ slotFor us (sender h)
-  slot-is = s ∙ slot-found us (sender h) known u k eu
+module _ (n : ℕ) (l us : List Block) (h : Block) (series : List Block) (p : Placing n (length l) us h series) (u known : ℕ) (places numbers : List ℕ) (d : Handed us h series u known places numbers)
+    (f : take u l ≡ us) (slot : ℕ) (s : slot ≡ cond (is known 0) (u + 1) known) where
+  abbrev new : List Block
+  new = senderIfNew known h series ++ addedTo slot places series (length series)
 
-  new-is : senderIfNew known h series ++ adopted known slot (take u l) series ≡ fresh us h series
-  unfolding fresh adopted ownSeries
-  new-is = ap₂ _++_ (sender-found us (sender h) known u k eu h series) (rw (slot-is, f, k))
+  slot-is : slot ≡ slotFor us (sender h)
+  slot-is = s ∙ slot-found us (sender h) known u (d .senders-slot) (d .used-many)
+
+  new-is : new ≡ fresh us h series
+  unfolding fresh ownSeries
+  new-is =
+      ap₂ _++_ (sender-found us (sender h) known u (d .senders-slot) (d .used-many) h series)
+      (all-new slot places series known us (d .stored)
+      ∙ ap₂ (λ a k. map (withSendersSlot a) (keep (isNew (keep (isSeriesOf k) us)) series)) slot-is (d .senders-slot))
 
   placed-length : length (placed us h series) ≡ u + length (fresh us h series)
   unfolding placed
   placed-length =
-      omega (arith, length-append (map (renewed (slotFor us (sender h)) h series) us) (fresh us h series), length-map us (renewed (slotFor us (sender h)) h series))
+      omega (arith, d .used-many, length-append (map (renewed (slotFor us (sender h)) h series) us) (fresh us h series), length-map us (renewed (slotFor us (sender h)) h series))
 
-  pub room : u + length (senderIfNew known h series ++ adopted known slot (take u l) series) ≤ length l
+  pub room : u + length new ≤ length l
   room = let r : length (placed us h series) ≤ length l = p .room in omega (arith, placed-length, ap length new-is)
 
-  module _ (l1 : List Block) (next : ℕ) (i : Laid u (senderIfNew known h series ++ adopted known slot (take u l) series) l l1 next) where
+  module _ (l1 : List Block) (next : ℕ) (i : Laid u new l l1 next) where
     pub next-is : next ≡ length (placed us h series)
     next-is = i .end ∙ ap (λ a. u + length a) new-is ∙ sym placed-length
 
     one : l1 ≡ us ++ (fresh us h series ++ drop next l)
     unfolding over
     one =
-        let e : length (us ++ fresh us h series) ≡ next = omega (arith, next-is, placed-length, length-append us (fresh us h series)) in
+        let e : length (us ++ fresh us h series) ≡ next = omega (arith, d .used-many, next-is, placed-length, length-append us (fresh us h series)) in
         i .list ∙ ap₂ (λ a b. over (a ++ b) l) f new-is ∙ ap (λ m. (us ++ fresh us h series) ++ drop m l) e ∙ append-assoc us (fresh us h series) (drop next l)
+
+    pub first-used : take u l1 ≡ us
+    first-used = ap (take u) one ∙ take-at us (fresh us h series ++ drop next l) u (sym (d .used-many))
+
+    pub used-numbers : Numbers (take u l1) series numbers
+    used-numbers = rw first-used (numbers-found us series numbers (p .series-slot) (d .sent))
 
     module _ (l2 : List Block) (e2 : l2 ≡ map (renewed slot h series) (take u l1) ++ drop u l1) where
       two : l2 ≡ placed us h series ++ drop next l
       unfolding placed
       two =
-          let t : take u l1 ≡ us = ap (take u) one ∙ take-at us (fresh us h series ++ drop next l) u (sym eu) in
-          let d : drop u l1 ≡ fresh us h series ++ drop next l = ap (drop u) one ∙ drop-at us (fresh us h series ++ drop next l) u (sym eu) in
-          e2 ∙ ap₂ (λ a b. map (renewed a h series) b ++ drop u l1) slot-is t ∙ ap (λ r. map (renewed (slotFor us (sender h)) h series) us ++ r) d
+          let k : drop u l1 ≡ fresh us h series ++ drop next l = ap (drop u) one ∙ drop-at us (fresh us h series ++ drop next l) u (sym (d .used-many)) in
+          e2 ∙ ap₂ (λ a b. map (renewed a h series) b ++ drop u l1) slot-is first-used ∙ ap (λ r. map (renewed (slotFor us (sender h)) h series) us ++ r) k
           ∙ sym (append-assoc (map (renewed (slotFor us (sender h)) h series) us) (fresh us h series) (drop next l))
 
-      module _ (l3 : List Block) (e3 : l3 ≡ map (remarkedBy n slot series (take next l2)) (take next l2) ++ drop next l2) where
+      first-placed : take next l2 ≡ placed us h series
+      first-placed = ap (take next) two ∙ take-at (placed us h series) (drop next l) next (sym next-is)
+
+      pub placed-others : Others slot (take next l2) numbers
+      placed-others = rw (slot-is, first-placed) (others n (length l) us h series p numbers (numbers-found us series numbers (p .series-slot) (d .sent)))
+
+      module _ (l3 : List Block) (e3 : l3 ≡ map (remarked n slot (take next l2)) (take next l2) ++ drop next l2) where
         pub three : l3 ≡ over (usedAfter n us h series) l
         unfolding usedAfter over
         three =
-            let t : take next l2 ≡ placed us h series = ap (take next) two ∙ take-at (placed us h series) (drop next l) next (sym next-is) in
-            let d : drop next l2 ≡ drop next l = ap (drop next) two ∙ drop-at (placed us h series) (drop next l) next (sym next-is) in
-            let m : map (remarkedBy n (slotFor us (sender h)) series (placed us h series)) (placed us h series) ≡ map (remarked n (slotFor us (sender h)) (placed us h series)) (placed us h series) =
-            map-agree _ _ (placed us h series) (all-each _ (remarked-same n (length l) us h series p) (placed us h series))
-            in
+            let k : drop next l2 ≡ drop next l = ap (drop next) two ∙ drop-at (placed us h series) (drop next l) next (sym next-is) in
             let z : next ≡ length (map (remarked n (slotFor us (sender h)) (placed us h series)) (placed us h series)) =
             next-is ∙ sym (length-map (placed us h series) (remarked n (slotFor us (sender h)) (placed us h series)))
             in
-            e3 ∙ ap₂ (λ a b. map (remarkedBy n a series b) b ++ drop next l2) slot-is t ∙ ap₂ (λ a b. a ++ b) m (d ∙ ap (λ j. drop j l) z)
+            e3 ∙ ap₂ (λ a b. map (remarked n a b) b ++ drop next l2) slot-is first-placed
+            ∙ ap (λ r. map (remarked n (slotFor us (sender h)) (placed us h series)) (placed us h series) ++ r) (k ∙ ap (λ j. drop j l) z)

@@ -1,15 +1,41 @@
--- One block as an acceptance leaves it, by the answers of the tests that the code makes.
-use mathlib.Core.Path.{_≡_}
+-- One block as an acceptance leaves it, by its number in the message and the answers of the tests that the code makes.
+use mathlib.Core.Path.{_≡_, sym, ap, _∙_}
 use mathlib.Core.Bool.{Bool, true, false}
 use mathlib.Core.List.{List, []}
-use Prim.Native.Nat.{ℕ, _-_}
-use lib.ListN.{getD}
-use Rattle.laws.specs.Lists.{place}
-use Rattle.laws.specs.Lists.Laws.{has-no-find, place-none, place-find}
+use Prim.Native.Nat.{ℕ, _-_, _<_}
+use lib.ListN.{length, getD}
+use Rattle.laws.specs.Tests.{_and_}
+use Rattle.laws.specs.Lists.{place, All}
+use Rattle.laws.specs.Lists.Laws.{all-imply, has-no-find, place-agree, place-none, place-find}
+use Rattle.laws.specs.Loops.{done}
 use Rattle.paper.specs.Layout.{Block, sender, pair, withSendersSlot}
 use Rattle.paper.specs.Book.{isSenderBlockOf, isSeriesOf}
 use Rattle.paper.specs.Rules.{pairIs}
 use Rattle.paper.specs.Acceptance.{senderKept, replaced, renewed}
+use Rattle.index.specs.Linked.{keyOf, ownWith, Found}
+use Rattle.accept.specs.Steps.{Numbers}
+use Rattle.accept.proofs.Laws.Lent.{done-next}
+
+-- ---- the numbers that the judgement has found: a message names no sender's slot, so that its series are told by their pairs alone
+
+with-pair : (b y : Block) → isSeriesOf 0 y ≡ true → ownWith 0 false (keyOf false b) y ≡ pairIs (pair b) y
+unfolding ownWith keyOf pairIs _and_
+with-pair b y e = rw e
+
+pub numbers-found : (us series : List Block) (numbers : List ℕ) → All (λ y. isSeriesOf 0 y ≡ true) series → Found 0 false series us numbers → Numbers us series numbers
+unfolding Numbers
+numbers-found us series numbers h f k c =
+    f .each k c
+    ∙ place-agree (ownWith 0 false (keyOf false (getD us k []))) (pairIs (pair (getD us k []))) series
+    (all-imply (λ y. isSeriesOf 0 y ≡ true) (λ y. ownWith 0 false (keyOf false (getD us k [])) y ≡ pairIs (pair (getD us k [])) y) (with-pair (getD us k [])) series h)
+
+-- block i is not yet renewed where those before it are: l are the blocks, a what the first i of them have become
+pub number-of : (f : Block → Block) (l series : List Block) (numbers : List ℕ) → Numbers l series numbers → (i : ℕ) → i < length l → (a : List Block) → a ≡ done (λ r. f) l i
+    → (n : ℕ) → n ≡ getD numbers i 0 → (b : Block) → b ≡ getD a i [] → n ≡ place (pairIs (pair b)) series
+unfolding Numbers
+number-of f l series numbers g i h a e n q b s = q ∙ g i h ∙ ap (λ x. place (pairIs (pair x)) series) (sym (s ∙ ap (λ k. getD k i []) e ∙ done-next (λ r. f) l i [] h))
+
+-- ---- by the tests
 
 module _ (slot : ℕ) (h : Block) (series : List Block) (b : Block) {r : Bool} where
   pub renewed-sender : r ≡ true → r ≡ isSenderBlockOf (sender h) b → senderKept h series ≡ renewed slot h series b

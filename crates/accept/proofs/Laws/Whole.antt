@@ -16,7 +16,7 @@ use Rattle.paper.specs.Layout.{Bytes, Block, nOf}
 use Rattle.paper.specs.Book.{dayBlock, slots, isFree, used}
 use Rattle.paper.specs.Message.{headOf, seriesOf}
 use Rattle.paper.specs.Acceptance.{usedAfter, accepted}
-use Rattle.accept.specs.Fits.{Placing, Fits}
+use Rattle.accept.specs.Fits.{Placing, Fits, Handed}
 
 -- ---- bytes of whole blocks, joined again
 
@@ -35,6 +35,11 @@ put-back b y a j =
     ∙ sym (append-assoc (take 512 b) (join a) (drop (512 + 512 * length a) b))
 
 -- ---- the slots are a book's, lent whole
+
+pub lent-handed : (b m : Bytes) (many known : ℕ) (places numbers : List ℕ) → Handed (used b) (headOf m) (seriesOf m) many known places numbers
+    → Handed (until isFree (cut 512 (take (length b - 512) (drop 512 b)))) (take 512 m) (cut 512 (take (length m - 512) (drop 512 m))) many known places numbers
+unfolding slots used headOf seriesOf
+lent-handed b m many known places numbers f = rw (rest-slice 512 b, rest-slice 512 m) f
 
 module _ (b m : Bytes) (f : Fits b m) where
   pub head-lent : (512 ≡ length (take 512 m)) × (512 ≤ length m)

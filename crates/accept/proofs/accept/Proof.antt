@@ -1,37 +1,37 @@
 -- The day block stays, the slots come back as the acceptance leaves them, and nothing stands behind them.
 use Rattle.laws.specs.Kit.{needs, arith}
 use denote.Ref.{now}
-use Rattle.accept.proofs.Laws.Whole.{head-lent, lent-placing, lent-accepted}
+use Rattle.accept.proofs.Laws.Whole.{head-lent, lent-placing, lent-handed, lent-accepted}
 use Rattle.accept.proofs.accept.Statement.{statement}
 use Rattle.accept.proofs.accept.Tie as tie
 
 head-part : tie.Need-slice-aggregate-accept-into
 head-part c =
     let a = c .before .before .before .before .before .before in
-    head-lent (now (a .args .book)) (now (a .args .message)) (a .pre) .0
+    head-lent (now (a .args .book)) (now (a .args .message)) (a .pre .0) .0
 
 series-start : tie.Need-sub-accept-into-2
 series-start c =
     let a = c .before .before .before .before .before .before in
-    head-lent (now (a .args .book)) (now (a .args .message)) (a .pre) .1
+    head-lent (now (a .args .book)) (now (a .args .message)) (a .pre .0) .1
 
 series-part : tie.Need-part-accept-into-start-2
 series-part c =
     let a = c .before .before .before .before .before .before in
-    head-lent (now (a .args .book)) (now (a .args .message)) (a .pre) .1
+    head-lent (now (a .args .book)) (now (a .args .message)) (a .pre .0) .1
 
 accept-into-requires : tie.Need-accept-into-requires
 accept-into-requires c κs =
     let n = c .before .before .before in
     let a = n .before .before .before .before in
-    lent-placing (now (a .args .book)) (now (a .args .message)) (a .pre) (n .n-of .result) (n .n-of .ensures)
+    (lent-placing (now (a .args .book)) (now (a .args .message)) (a .pre .0) (n .n-of .result) (n .n-of .ensures), lent-handed (now (a .args .book)) (now (a .args .message)) _ _ _ _ (a .pre .1))
 
 returns : tie.Need-returns
 returns c =
     let i = c .before .before in
     let n = i .before .before .before .before in
     let a = n .before .before .before .before in
-    lent-accepted (now (a .args .book)) (now (a .args .message)) (a .pre) (n .n-of .result) (n .n-of .ensures) (i .accept-into .last .0) (omega arith) (i .accept-into .ensures)
+    lent-accepted (now (a .args .book)) (now (a .args .message)) (a .pre .0) (n .n-of .result) (n .n-of .ensures) (i .accept-into .last .0) (omega arith) (i .accept-into .ensures)
 
 pub accept-spec : {M : Type 1} → statement M
 accept-spec =

@@ -9,10 +9,10 @@ use Rattle.plain_run.proofs.every_mark_true.Statement.{statement}
 use Rattle.plain_run.proofs.every_mark_true.Tie as tie
 
 abbrev Inv-loop : tie.InvT-loop
-Inv-loop n us many ok₀ i₀ ok i = (i ≤ length us / 512) × (every (markTrue n (cut 512 us)) (cut 512 us) ≡ (ok and every (markTrue n (cut 512 us)) (drop i (cut 512 us))))
+Inv-loop n us heads nexts many ok₀ i₀ ok i = (i ≤ length us / 512) × (every (markTrue n (cut 512 us)) (cut 512 us) ≡ (ok and every (markTrue n (cut 512 us)) (drop i (cut 512 us))))
 
 abbrev μ-loop : tie.MeasureT-loop
-μ-loop n us many ok₀ i₀ ok i = length us / 512 - i
+μ-loop n us heads nexts many ok₀ i₀ ok i = length us / 512 - i
 
 more : tie.Need-loop-again Inv-loop μ-loop
 more c =

@@ -4,11 +4,13 @@ use Rattle.plain_run.proofs.Laws.{sound-length, sound-n, n-day, not-sou
 use Rattle.plain_run.proofs.plain_run.Statement.{statement}
 use Rattle.plain_run.proofs.plain_run.Tie as tie
 
-marks-requires : tie.Need-every-mark-true-requires
+marks-requires : tie.Need-marks-true-requires
 marks-requires c κs =
-    let n = c .before in
+    let u = c in
+    let n = u .before in
     let s = n .before .before .before in
-    omega (arith, n-day _ _ _ (n .n-of .ensures) (n .before .part-of .ensures), sound-n _ (told (s .sound .ensures) (n .before .before .if1 .left)))
+    let t = told (s .sound .ensures) (n .before .before .if1 .left) in
+    (omega (arith, n-day _ _ _ (n .n-of .ensures) (n .before .part-of .ensures), sound-n _ t), omega (arith, u .used-slots .ensures .1, sound-length _ t))
 
 nets-requires : tie.Need-every-net-true-requires
 nets-requires c κs =
@@ -22,7 +24,7 @@ answer c =
     let u = m .before in
     let n = u .before in
     let i = n .before .before in
-    found _ _ _ _ _ (told (i .before .sound .ensures) (i .if1 .left)) (n-day _ _ _ (n .n-of .ensures) (n .before .part-of .ensures)) (u .used-slots .ensures .0) (m .every-mark-true .ensures) (c .every-net-true .ensures)
+    found _ _ _ _ _ (told (i .before .sound .ensures) (i .if1 .left)) (n-day _ _ _ (n .n-of .ensures) (n .before .part-of .ensures)) (u .used-slots .ensures .0) (m .marks-true .ensures) (c .every-net-true .ensures)
 
 pub plain-run-spec : {M : Type 1} → statement M
 plain-run-spec =

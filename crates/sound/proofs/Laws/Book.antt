@@ -1,75 +1,122 @@
--- A book cut as the code cuts it: the day block, the used slots, the free ones.
+-- A book cut as the code cuts it: the day block and the used slots, then the free ones.
 use mathlib.Core.Path.{_≡_, refl, sym, ap, _∙_}
 use mathlib.Core.Bool.{Bool, true, false}
-use Prim.Native.Nat.{ℕ, _-_, _*_, _/_, _%_, _≤_}
+use mathlib.Core.List.{_++_}
+use Prim.Native.Nat.{ℕ, suc, _+_, _-_, _*_, _/_, _%_, _≤_}
 use native.Mathlib.Nat.{div-add-mod'}
 use native.Mathlib.Omega.{arith}
 use lib.ListN.{length, take, drop, length-drop}
-use lib.Seq.{length-take-le}
+use lib.Seq.{length-take-le, drop-drop}
 use Rattle.laws.specs.Tests.{_and_, is}
-use Rattle.laws.specs.Tests.Laws.{and-left, and-right, is-yes, upto-yes}
+use Rattle.laws.specs.Tests.Laws.{and-left, and-right, and-true, is-yes, upto-yes}
 use Rattle.laws.specs.Lists.{every, until}
-use Rattle.laws.specs.Lists.Laws.{until-take, until-length}
+use Rattle.laws.specs.Lists.Laws.{drop-take, all-imply, every-all, all-every, every-append, until-take, until-length}
 use Rattle.laws.specs.Bytes.{part}
+use Rattle.laws.specs.Bytes.Laws.{part-take}
 use Rattle.laws.specs.Slices.{rest-slice}
 use Rattle.laws.specs.Cut.{cut}
-use Rattle.laws.specs.Cut.Laws.{cut-length, take-cut, cut-drop, join-cut}
+use Rattle.laws.specs.Cut.Laws.{cut-length, take-cut, cut-drop, cut-split, join-cut}
 use Rattle.paper.specs.Check.{checkRight}
-use Rattle.paper.specs.Layout.{Bytes, Block, zeros}
+use Rattle.paper.specs.Layout.{Bytes, zeros}
 use Rattle.paper.specs.Ranges.{wholeBlocks}
 use Rattle.paper.specs.Book.{dayBlock, slots, isFree, used}
 use Rattle.paper.specs.Sound.{daySound, usedFirst, sound}
-use Rattle.sound.specs.Used.{eachUsed, slotsSound}
+use Rattle.facts.specs.Book.{free-right}
+use Rattle.sound.specs.Used.{eachUsed, filledSound}
 use Rattle.sound.proofs.Laws.Lists.{every-join}
-
--- ---- used slots first, free ones after
 
 whole : (n : ℕ) → n % 512 ≡ 0 → n ≡ 512 * (n / 512)
 whole n e = omega (arith, div-add-mod' n 512)
 
-module _ (s : Bytes) (many : ℕ) (e : many ≡ length (until isFree (cut 512 s))) (w : length s % 512 ≡ 0) where
-  inside : many ≤ length s / 512
-  inside = omega (arith, until-length isFree (cut 512 s), cut-length 512 s)
+zeros-free : (s : Bytes) → length s % 512 ≡ 0 → zeros s ≡ every isFree (cut 512 s)
+unfolding isFree zeros
+zeros-free s w = ap (every (λ x. is x 0)) (sym (join-cut 512 (length s / 512) s (whole (length s) w))) ∙ every-join (λ x. is x 0) (cut 512 s)
 
-  front : cut 512 (take (512 * many) s) ≡ until isFree (cut 512 s)
-  front = take-cut 512 s many inside ∙ until-take isFree (cut 512 s) many e
+free-checks : (s : Bytes) → length s % 512 ≡ 0 → zeros s ≡ true → every checkRight (cut 512 s) ≡ true
+free-checks s w t = all-every _ _ (all-imply (λ x. isFree x ≡ true) (λ x. checkRight x ≡ true) free-right (cut 512 s) (every-all _ _ (sym (zeros-free s w) ∙ t)))
 
-  rest : zeros (drop (512 * many) s) ≡ every isFree (drop many (cut 512 s))
-  unfolding isFree zeros
-  rest =
-      let n : length (drop (512 * many) s) ≡ 512 * (length s / 512 - many) = length-drop (512 * many) s ∙ omega (arith, whole (length s) w) in
-      ap (every (λ x. is x 0)) (sym (join-cut 512 (length s / 512 - many) (drop (512 * many) s) n))
-      ∙ every-join (λ x. is x 0) (cut 512 (drop (512 * many) s)) ∙ ap (every (every (λ x. is x 0))) (cut-drop 512 s many)
+-- ---- the tests, in the code's order
 
-  pub slots-split : (d : Block) → slotsSound d (cut 512 s) ≡ (zeros (take (length s - 512 * many) (drop (512 * many) s)) and eachUsed d (cut 512 (take (512 * many) s)))
-  unfolding slotsSound
-  slots-split d = rw (rest-slice (512 * many) s, rest, front, e)
+free-first : (c d u e s t : Bool) → (true and c and d and u and e and s and t) ≡ (u and (c and d and (e and s and t)))
+unfolding _and_
+free-first true true true e s t = refl
+free-first true true false e s t = refl
+free-first true false true e s t = refl
+free-first true false false e s t = refl
+free-first false d true e s t = refl
+free-first false d false e s t = refl
 
-pub used-few : (s : Bytes) (many : ℕ) → 512 * many ≤ length s → length s / 512 ≤ 1000 → length (take (512 * many) s) / 512 ≤ 1000
-used-few s many h k = rw (length-take-le (512 * many) s h) (omega arith)
+-- what follows a test counts only where the test holds
+where-first : (z x y d e : Bool) → (z ≡ true → x ≡ y) → (z and (x and d and e)) ≡ (z and (y and d and e))
+unfolding _and_
+where-first true x y d e f = ap (λ v. v and d and e) (f refl)
+where-first false x y d e f = refl
+
+-- ---- the day block and the used slots
+
+pub filled-split : (b : Bytes) → filledSound b ≡ (every checkRight (cut 512 b) and daySound (part 0 512 b) and eachUsed (part 0 512 b) (cut 512 (take (length b - 512) (drop 512 b))))
+unfolding filledSound
+filled-split b = rw (rest-slice 512 b)
+
+pub slots-few : (b : Bytes) → length b / 512 ≤ 1001 → length (take (length b - 512) (drop 512 b)) / 512 ≤ 1000
+slots-few b h = rw (rest-slice 512 b, length-drop 512 b) (omega arith)
 
 -- ---- the book
 
-slots-last : (x u e s t : Bool) → (x and u and e and s and t) ≡ (x and (u and (e and s and t)))
-unfolding _and_
-slots-last true true e s t = refl
-slots-last true false e s t = refl
-slots-last false u e s t = refl
+pub not-whole : (b : Bytes) → wholeBlocks 2 1001 b ≡ false → sound b ≡ false
+unfolding sound _and_
+not-whole b e = rw e
 
-pub sound-split : (b : Bytes) → sound b ≡ (wholeBlocks 2 1001 b and every checkRight (cut 512 b) and daySound (part 0 512 b) and slotsSound (part 0 512 b) (cut 512 (take (length b - 512) (drop 512 b))))
-unfolding sound usedFirst used slots dayBlock slotsSound eachUsed part
-sound-split b = rw (rest-slice 512 b) (slots-last _ _ _ _ _)
-
--- the length, as the slots' part asks for it
 module _ (b : Bytes) (e : wholeBlocks 2 1001 b ≡ true) where
+  blocks-whole : length b % 512 ≡ 0
+  unfolding wholeBlocks
+  blocks-whole = is-yes _ _ (and-left _ _ (and-left _ _ e))
+
+  blocks-many : 2 ≤ length b / 512
+  unfolding wholeBlocks
+  blocks-many = upto-yes _ _ (and-right _ _ (and-left _ _ e))
+
+  blocks-few : length b / 512 ≤ 1001
+  unfolding wholeBlocks
+  blocks-few = upto-yes _ _ (and-right _ _ e)
+
   pub day-inside : 512 ≤ length b
-  unfolding wholeBlocks
-  day-inside = let z : 2 ≤ length b / 512 = upto-yes _ _ (and-right _ _ (and-left _ _ e)) in omega arith
+  day-inside = omega (arith, blocks-many)
 
-  pub slots-whole : length (take (length b - 512) (drop 512 b)) % 512 ≡ 0
-  unfolding wholeBlocks
-  slots-whole = let z : length b % 512 ≡ 0 = is-yes _ _ (and-left _ _ (and-left _ _ e)) in rw (rest-slice 512 b, length-drop 512 b) (omega arith)
+  module _ (many : ℕ) (h : 512 * many ≤ length (take (length b - 512) (drop 512 b))) where
+    pub filled-inside : 512 + 512 * many ≤ length b
+    filled-inside = let g : 512 * many ≤ length b - 512 = rw (rest-slice 512 b, length-drop 512 b) at h in omega (arith, day-inside)
 
-  pub slots-few : length (take (length b - 512) (drop 512 b)) / 512 ≤ 1000
-  unfolding wholeBlocks
-  slots-few = let z : length b / 512 ≤ 1001 = upto-yes _ _ (and-right _ _ e) in rw (rest-slice 512 b, length-drop 512 b) (omega arith)
+    pub filled-length : (512 ≤ length (take (512 + 512 * many) b)) × (length (take (512 + 512 * many) b) / 512 ≤ 1001)
+    filled-length = rw (length-take-le (512 + 512 * many) b filled-inside) (omega arith, omega (arith, filled-inside, blocks-few))
+
+    rest-whole : length (drop (512 + 512 * many) b) % 512 ≡ 0
+    rest-whole = rw (length-drop (512 + 512 * many) b) (omega (arith, blocks-whole, filled-inside))
+
+    checks-split : zeros (drop (512 + 512 * many) b) ≡ true → every checkRight (cut 512 b) ≡ every checkRight (cut 512 (take (512 + 512 * many) b))
+    checks-split t =
+        let q : 512 * suc many ≡ 512 + 512 * many = omega arith in
+        let p : cut 512 b ≡ cut 512 (take (512 + 512 * many) b) ++ cut 512 (drop (512 + 512 * many) b) = rw q at (cut-split 512 (suc many) b (omega (arith, filled-inside))) in
+        rw (p, every-append, free-checks (drop (512 + 512 * many) b) rest-whole t) (and-true _)
+
+    module _ (u : many ≡ length (until isFree (cut 512 (take (length b - 512) (drop 512 b))))) where
+      count : many ≡ length (until isFree (cut 512 (drop 512 b)))
+      count = rw (rest-slice 512 b) at u
+
+      first : usedFirst b ≡ zeros (drop (512 + 512 * many) b)
+      unfolding usedFirst used slots
+      first = rw (← count, ← cut-drop 512 (drop 512 b) many, drop-drop (512 * many) 512 b) (sym (zeros-free (drop (512 + 512 * many) b) rest-whole))
+
+      us : cut 512 (drop 512 (take (512 + 512 * many) b)) ≡ used b
+      unfolding used slots
+      us = rw (drop-take 512 (512 * many) b) (take-cut 512 (drop 512 b) many (omega (arith, count, until-length isFree (cut 512 (drop 512 b)), cut-length 512 (drop 512 b))) ∙ until-take isFree (cut 512 (drop 512 b)) many count)
+
+      in-order : sound b ≡ (zeros (drop (512 + 512 * many) b) and (every checkRight (cut 512 b) and daySound (part 0 512 b) and eachUsed (part 0 512 b) (used b)))
+      unfolding sound dayBlock eachUsed part
+      in-order = rw (e, ← first) (free-first _ _ _ _ _ _)
+
+      pub sound-split : sound b ≡ (zeros (take (length b - (512 + 512 * many)) (drop (512 + 512 * many) b)) and filledSound (take (512 + 512 * many) b))
+      unfolding filledSound
+      sound-split =
+          rw (rest-slice (512 + 512 * many) b, part-take 0 512 (512 + 512 * many) b (omega arith), us)
+          (in-order ∙ where-first (zeros (drop (512 + 512 * many) b)) _ _ _ _ checks-split)

@@ -1,11 +1,11 @@
 -- A block clashes with none outside its group, so a walk along the group tells whether it clashes with any.
-use mathlib.Core.Path.{_≡_, sym, ap, _∙_}
-use mathlib.Core.Bool.{Bool, true, false, not, _&&_}
+use mathlib.Core.Path.{_≡_, sym, _∙_}
+use mathlib.Core.Bool.{Bool, true, false}
 use mathlib.Core.List.{List, []}
 use Prim.Native.Nat.{ℕ, _+_, _-_, _/_, _<_}
 use lib.ListN.{length, drop, getD}
 use Rattle.laws.specs.Tests.{_and_, neg}
-use Rattle.laws.specs.Tests.Laws.{split, clash, and-left, and-right, and-true, or-else, is-yes, and-assoc, neg-true, is-same, is-equal}
+use Rattle.laws.specs.Tests.Laws.{split, clash, and-left, and-right, or-else, is-yes, neg-true, is-same, is-equal}
 use Rattle.laws.specs.Lists.{every}
 use Rattle.laws.specs.Cut.{cut}
 use Rattle.paper.specs.Layout.{Bytes, Block}
@@ -25,11 +25,17 @@ clash-group a b e =
 pub clear-outside : (a b : Block) → inGroup (group a) b ≡ false → neg (clashes a b) ≡ true
 clear-outside a b e = neg-true _ (split (clashes a b) (λ t. clash (clash-group a b t) e) (λ t. t))
 
-pub clear-go : (s : Bytes) (a : Block) {i n : ℕ} (ok : Bool) {w t : Bool} → Next s (group a) i n → w ≡ (ok and every (λ y. neg (clashes a y)) (drop i (cut 512 s)))
-    → t ≡ clashes a (getD (cut 512 s) (n - 1) []) → w ≡ ((ok && not t) and every (λ y. neg (clashes a y)) (drop (n - 1 + 1) (cut 512 s)))
-unfolding _and_ neg
-clear-go s a ok x e q = rw q (e ∙ ap (λ z. ok and z) (x .judged (λ y. neg (clashes a y)) (clear-outside a)) ∙ sym (and-assoc ok _ _))
+module _ (s : Bytes) (a : Block) where
+  -- the next of the group is judged, and what stands before it needs no look
+  pub clear-go : {i n : ℕ} {w t : Bool} → Next s (group a) i n → w ≡ every (λ y. neg (clashes a y)) (drop i (cut 512 s)) → t ≡ clashes a (getD (cut 512 s) (n - 1) []) → t ≡ false
+      → w ≡ every (λ y. neg (clashes a y)) (drop (n - 1 + 1) (cut 512 s))
+  unfolding _and_ neg
+  clear-go x e q f = e ∙ x .judged (λ y. neg (clashes a y)) (clear-outside a) ∙ rw (sym q ∙ f)
 
-pub clear-end : (s : Bytes) (n : List ℕ) (a : Block) (at : ℕ) (ok : Bool) {w : Bool} → Nexts (cut 512 s) 0 n → at < length s / 512 → group (getD (cut 512 s) at []) ≡ group a → getD n at 0 ≡ 0
-    → w ≡ (ok and every (λ y. neg (clashes a y)) (drop (at + 1) (cut 512 s))) → ok ≡ w
-clear-end s n a at ok m h g z e = sym (e ∙ ap (λ r. ok and r) (last-judged s n at m h g z (λ y. neg (clashes a y)) (clear-outside a)) ∙ and-true ok)
+  pub clear-hit : {i n : ℕ} {w t : Bool} → Next s (group a) i n → w ≡ every (λ y. neg (clashes a y)) (drop i (cut 512 s)) → t ≡ clashes a (getD (cut 512 s) (n - 1) []) → t ≡ true → false ≡ w
+  unfolding _and_ neg
+  clear-hit x e q f = sym (e ∙ x .judged (λ y. neg (clashes a y)) (clear-outside a) ∙ rw (sym q ∙ f))
+
+pub clear-end : (s : Bytes) (n : List ℕ) (a : Block) (at : ℕ) {w : Bool} → Nexts (cut 512 s) 0 n → at < length s / 512 → group (getD (cut 512 s) at []) ≡ group a → getD n at 0 ≡ 0
+    → w ≡ every (λ y. neg (clashes a y)) (drop (at + 1) (cut 512 s)) → true ≡ w
+clear-end s n a at m h g z e = sym (e ∙ last-judged s n at m h g z (λ y. neg (clashes a y)) (clear-outside a))

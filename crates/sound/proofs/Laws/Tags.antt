@@ -1,22 +1,23 @@
 -- Two blocks whose tags both differ do not clash.
 use mathlib.Core.Path.{_≡_, sym, ap, _∙_}
-use mathlib.Core.Bool.{true, false}
+use mathlib.Core.Bool.{true, false, not, _&&_}
+use borrow.Author.Tests.{not-true}
+use lib.Dec.{eqb}
 use mathlib.Core.List.{List, []}
 use Prim.Native.Nat.{ℕ, _+_, _≤_, _<_}
 use native.Mathlib.Omega.{arith}
 use lib.ListN.{length, getD, set}
 use lib.Seq.{getD-set-same, getD-set-other}
-use Rattle.laws.specs.Tests.{_or_, is, less}
-use Rattle.laws.specs.Tests.Laws.{split, clash, and-left, and-right, or-no, or-else, is-other, or-yes-left, or-yes-right, is-equal, less-yes, less-no}
+use Rattle.laws.specs.Tests.{_and_, _or_, is, less}
+use Rattle.laws.specs.Tests.Laws.{split, clash, and-left, and-right, or-no, or-else, or-yes-left, or-yes-right, is-equal, less-yes, less-no}
 use Rattle.laws.specs.Lists.{same}
 use Rattle.laws.specs.Lists.Laws.{same-yes}
 use Rattle.laws.specs.Cut.{cut}
-use Rattle.paper.specs.Check.{checkFrom}
 use Rattle.paper.specs.Layout.{Bytes, Block, idOf}
 use Rattle.paper.specs.Sound.{sameSender, sameSeries}
 use Rattle.facts.specs.Book.{sender-not-series}
 use Rattle.sound.specs.Used.{clashes}
-use Rattle.sound.specs.Links.{idTag, pairTag, Tags}
+use Rattle.sound.specs.Links.{tagOf, pairTagOf, idTag, pairTag, Tags}
 
 pub tags-none : (s : Bytes) (u v : List ℕ) → Tags (cut 512 s) 0 u v
 unfolding Tags
@@ -37,18 +38,20 @@ tag-clash : (a b : Block) → clashes a b ≡ true → (is (idTag a) (idTag b) o
 unfolding clashes sameSender sameSeries idTag pairTag
 tag-clash a b e =
     split (sameSender a b)
-    (λ t. let u = and-left _ _ t in or-yes-left _ _ (is-equal _ _ (rw (sender-not-series a (and-left _ _ u), sender-not-series b (and-right _ _ u)) (ap (checkFrom 0) (same-yes _ _ (and-right _ _ t))))))
+    (λ t. let u = and-left _ _ t in or-yes-left _ _ (is-equal _ _ (rw (sender-not-series a (and-left _ _ u), sender-not-series b (and-right _ _ u)) (ap tagOf (same-yes _ _ (and-right _ _ t))))))
     (λ t.
     let f = or-else _ _ e t in
     let v = and-left _ _ (and-left _ _ f) in
     split (same (idOf a) (idOf b))
-    (λ w. or-yes-left _ _ (is-equal _ _ (rw (and-left _ _ v, and-right _ _ v) (ap (checkFrom 0) (same-yes _ _ w)))))
-    (λ w. or-yes-right _ _ (is-equal _ _ (rw (and-left _ _ v, and-right _ _ v) (ap (checkFrom 0) (same-yes _ _ (or-else _ _ (and-right _ _ f) w)))))))
+    (λ w. or-yes-left _ _ (is-equal _ _ (rw (and-left _ _ v, and-right _ _ v) (ap tagOf (same-yes _ _ w)))))
+    (λ w. or-yes-right _ _ (is-equal _ _ (rw (and-left _ _ v, and-right _ _ v) (ap pairTagOf (same-yes _ _ (or-else _ _ (and-right _ _ f) w)))))))
 
-pub tags-apart : (s : Bytes) (m : ℕ) (u v : List ℕ) (i j : ℕ) → Tags (cut 512 s) m u v → i < m → j < m → (getD u i 0 ≡ getD u j 0 → ⊥) → (getD v i 0 ≡ getD v j 0 → ⊥)
+differ : (x y z w : ℕ) → (not (eqb x y) && not (eqb z w)) ≡ true → (is x y or is z w) ≡ false
+unfolding _and_ is
+differ x y z w e = or-no _ _ (not-true (eqb x y) (and-left (not (eqb x y)) (not (eqb z w)) e)) (not-true (eqb z w) (and-right (not (eqb x y)) (not (eqb z w)) e))
+
+pub tags-apart : (s : Bytes) (m : ℕ) (u v : List ℕ) (i j : ℕ) → Tags (cut 512 s) m u v → i < m → j < m → (not (eqb (getD u i 0) (getD u j 0)) && not (eqb (getD v i 0) (getD v j 0))) ≡ true
     → false ≡ clashes (getD (cut 512 s) i []) (getD (cut 512 s) j [])
 unfolding Tags
-tags-apart s m u v i j a h k f g =
-    sym (split (clashes (getD (cut 512 s) i []) (getD (cut 512 s) j []))
-    (λ t. clash (tag-clash _ _ t) (or-no _ _ (is-other _ _ (λ e. f (a i h .0 ∙ e ∙ sym (a j k .0)))) (is-other _ _ (λ e. g (a i h .1 ∙ e ∙ sym (a j k .1))))))
-    (λ t. t))
+tags-apart s m u v i j a h k e =
+    sym (split (clashes (getD (cut 512 s) i []) (getD (cut 512 s) j [])) (λ t. clash (tag-clash _ _ t) (rw (a i h .0, a j k .0, a i h .1, a j k .1) at (differ (getD u i 0) (getD u j 0) (getD v i 0) (getD v j 0) e))) (λ t. t))

@@ -1,56 +1,58 @@
--- The clauses are taken in the definition's order, each part of the book as the definition cuts it.
-use Rattle.laws.specs.Kit.{needs, arith, told, denied}
+-- The blocks before the first free one are the day block and the used ones; behind them all must be free, and then every check there is right.
+use Rattle.laws.specs.Kit.{needs, arith, sym, told, denied}
+use lib.Seq.{length-take-le}
 use Rattle.laws.specs.Tests.{_and_}
-use Rattle.facts.specs.Sound.{day-n}
-use Rattle.sound.proofs.Laws.Book.{sound-split, day-inside, slots-whole, slots-few}
+use Rattle.sound.proofs.Laws.Book.{not-whole, day-inside, filled-inside, filled-length, sound-split}
 use Rattle.sound.proofs.sound.Statement.{statement}
 use Rattle.sound.proofs.sound.Tie as tie
 
 returns : tie.Need-returns
-unfolding _and_
-returns c = rw (sound-split, denied (c .before .whole-blocks .ensures) (c .if1 .taken))
+returns c = sym (not-whole _ (denied (c .before .whole-blocks .ensures) (c .if1 .taken)))
+
+sub-used-count : tie.Need-sub-used-count
+sub-used-count c = omega (arith, day-inside _ (told (c .before .whole-blocks .ensures) (c .if1 .left)))
+
+part-used-count-start : tie.Need-part-used-count-start
+part-used-count-start c = omega (arith, day-inside _ (told (c .before .whole-blocks .ensures) (c .if1 .left)))
+
+sub-all-zero : tie.Need-sub-all-zero
+sub-all-zero c =
+    let w = c .before .before in
+    omega (arith, filled-inside _ (told (w .before .whole-blocks .ensures) (w .if1 .left)) _ (c .used-count .ensures .1))
+
+part-all-zero-start : tie.Need-part-all-zero-start
+part-all-zero-start c =
+    let w = c .before .before in
+    omega (arith, filled-inside _ (told (w .before .whole-blocks .ensures) (w .if1 .left)) _ (c .used-count .ensures .1))
 
 returns-2 : tie.Need-returns-2
 unfolding _and_
 returns-2 c =
-    let w = c .before .before in
-    rw (sound-split, told (w .before .whole-blocks .ensures) (w .if1 .left), denied (c .before .checks-right .ensures) (c .if2 .taken))
+    let u = c .before .before .before in
+    let w = u .before .before in
+    rw (sound-split _ (told (w .before .whole-blocks .ensures) (w .if1 .left)) _ (u .used-count .ensures .1) (u .used-count .ensures .0), denied (c .before .all-zero .ensures) (c .if2 .taken))
+
+slice-aggregate-filled-sound : tie.Need-slice-aggregate-filled-sound
+slice-aggregate-filled-sound c =
+    let u = c .before .before .before .before in
+    let w = u .before .before in
+    sym (length-take-le _ _ (filled-inside _ (told (w .before .whole-blocks .ensures) (w .if1 .left)) _ (u .used-count .ensures .1)))
+
+filled-sound-requires : tie.Need-filled-sound-requires
+filled-sound-requires c κs =
+    let u = c .before .before .before .before in
+    let w = u .before .before in
+    filled-length _ (told (w .before .whole-blocks .ensures) (w .if1 .left)) _ (u .used-count .ensures .1)
 
 returns-3 : tie.Need-returns-3
 unfolding _and_
 returns-3 c =
-    let p = c .before .before .before in
-    let k = p .before .before in
-    let w = k .before .before in
-    rw (sound-split, told (w .before .whole-blocks .ensures) (w .if1 .left), told (k .before .checks-right .ensures) (k .if2 .left), rw (p .part-of .ensures) at (denied (c .before .day-sound .ensures) (c .if3 .taken)))
-
-sub-slots-sound : tie.Need-sub-slots-sound
-sub-slots-sound c =
-    let w = c .before .before .before .before .before .before .before .before in
-    omega (arith, day-inside _ (told (w .before .whole-blocks .ensures) (w .if1 .left)))
-
-part-slots-sound-start : tie.Need-part-slots-sound-start
-part-slots-sound-start c =
-    let w = c .before .before .before .before .before .before .before .before in
-    omega (arith, day-inside _ (told (w .before .whole-blocks .ensures) (w .if1 .left)))
-
-slots-sound-requires : tie.Need-slots-sound-requires
-slots-sound-requires c κs =
-    let d = c .before .before in
-    let w = d .before .before .before .before .before .before .before in
-    let b = told (w .before .whole-blocks .ensures) (w .if1 .left) in
-    (search needs, day-n _ (told (d .before .day-sound .ensures) (d .if3 .left)), slots-whole _ b, slots-few _ b)
-
-returns-4 : tie.Need-returns-4
-unfolding _and_
-returns-4 c =
-    let d = c .before .before .before in
-    let p = d .before .before .before in
-    let k = p .before .before in
-    let w = k .before .before in
-    rw (sound-split, told (w .before .whole-blocks .ensures) (w .if1 .left), told (k .before .checks-right .ensures) (k .if2 .left), ← p .part-of .ensures, told (d .before .day-sound .ensures) (d .if3 .left)) (c .slots-sound .ensures)
+    let f = c .before .before in
+    let u = f .before .before .before in
+    let w = u .before .before in
+    rw (sound-split _ (told (w .before .whole-blocks .ensures) (w .if1 .left)) _ (u .used-count .ensures .1) (u .used-count .ensures .0), told (f .before .all-zero .ensures) (f .if2 .left)) (c .filled-sound .ensures)
 
 pub sound-spec : {M : Type 1} → statement M
 sound-spec =
     tie.close
-    (tie.spec (λ c κs. search needs) returns (λ c κs. search needs) returns-2 (λ c κs. search needs) (λ c κs. search needs) (λ c κs. search needs) returns-3 sub-slots-sound part-slots-sound-start (search needs) slots-sound-requires returns-4)
+    (tie.spec (λ c κs. search needs) returns sub-used-count part-used-count-start (search needs) (λ c κs. search needs) (search needs) (search needs) sub-all-zero part-all-zero-start (search needs) (λ c κs. search needs) returns-2 slice-aggregate-filled-sound filled-sound-requires returns-3)

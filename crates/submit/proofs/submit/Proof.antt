@@ -1,21 +1,24 @@
 -- A refusal leaves the book as it was, by the definition; a verdict of 0 gives what the acceptance relies on.
-use borrow.Author.Needs.{needs}
-use Rattle.submit.proofs.Laws.{submitted-refused, submitted-accepted, accepted-fits}
+use Rattle.laws.specs.Kit.{needs}
+use Rattle.submit.proofs.Laws.{submitted-refused, submitted-accepted, accepted-fits, handed-on}
 use Rattle.submit.proofs.submit.Statement.{statement}
 use Rattle.submit.proofs.submit.Tie as tie
 
 returns : tie.Need-returns
-returns c = let j = c .before .before .verdict in (j .ensures, submitted-refused _ _ _ (j .ensures) (c .if1 .taken))
+returns c = let j = c .before .before .before .judge-book .ensures .0 in (j, submitted-refused _ _ _ j (c .if1 .taken))
 
 accept-requires : tie.Need-accept-requires
-accept-requires c κs = let k = c .before in let j = k .before .before .verdict in accepted-fits _ _ _ (j .ensures) (k .if1 .left)
+accept-requires c κs =
+    let e = c .before .before .before in
+    let j = e .before .before .before .judge-book .ensures in
+    (accepted-fits _ _ _ (j .0) (e .if1 .left), handed-on _ _ _ _ _ _ _ (j .1) (e .if1 .left))
 
 returns-2 : tie.Need-returns-2
 returns-2 c =
     let a = c .before .before in
-    let k = a .before .before in
-    let j = k .before .before .verdict in
-    (j .ensures, submitted-accepted _ _ _ (j .ensures) (k .if1 .left) (a .accept .ensures))
+    let e = a .before .before .before .before in
+    let j = e .before .before .before .judge-book .ensures .0 in
+    (j, submitted-accepted _ _ _ j (e .if1 .left) (a .accept .ensures))
 
 pub submit-spec : {M : Type 1} → statement M
 submit-spec = tie.close (tie.spec (λ c κs. search needs) (search needs) returns accept-requires (search needs) returns-2)

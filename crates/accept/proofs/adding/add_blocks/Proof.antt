@@ -1,8 +1,9 @@
--- What is laid in two turns, the sender's block and then the series, is laid in one; the first u slots are the same in both.
-use Rattle.laws.specs.Kit.{needs, arith}
+-- What is laid in two turns, the sender's block and then the series, is laid in one.
+use Rattle.laws.specs.Kit.{needs, arith, _/_, length}
 use denote.Ref.{now}
 use Rattle.laws.specs.Cut.{cut}
 use Rattle.laws.specs.Cut.Laws.{cut-length}
+use Rattle.accept.specs.Steps.{senderIfNew, addedTo}
 use Rattle.accept.proofs.Laws.InTurn.{sender-room, series-room, both-laid}
 use Rattle.accept.proofs.adding.add_blocks.Statement.{statement}
 use Rattle.accept.proofs.adding.add_blocks.Tie as tie
@@ -10,23 +11,23 @@ use Rattle.accept.proofs.adding.add_blocks.Tie as tie
 add-sender-requires : tie.Need-add-sender-requires
 add-sender-requires c κs =
     let a = c .before .before .before .before in
-    let r = sender-room (a .args .known .0) (a .args .slot .0) (a .args .u) (cut 512 (now (a .args .slots))) (cut 512 (now (a .args .series))) (now (a .args .head)) (omega (arith, cut-length 512 (now (a .args .slots)))) in
-    (omega (arith, r, cut-length 512 (now (a .args .slots))), a .pre .1, a .pre .2)
+    let r = sender-room (a .args .u) (cut 512 (now (a .args .slots))) (senderIfNew (a .args .known .0) (now (a .args .head)) (cut 512 (now (a .args .series)))) (addedTo (a .args .slot .0) (now (a .args .places)) (cut 512 (now (a .args .series))) (length (now (a .args .series)) / 512)) (omega (arith, a .pre .0, cut-length 512 (now (a .args .slots)))) in
+    (omega (arith, r, cut-length 512 (now (a .args .slots))), a .pre .1, omega (arith, a .pre .2))
 
 add-series-requires : tie.Need-add-series-requires
 add-series-requires c κs =
     let s = c .before .before .before in
     let a = s .before .before .before .before .before in
-    let r = series-room (a .args .known .0) (a .args .slot .0) (a .args .u) (cut 512 (now (a .args .slots))) (cut 512 (now (a .args .series))) (now (a .args .head)) (omega (arith, cut-length 512 (now (a .args .slots)))) (s .add-sender .ensures) in
-    (r .0, omega (arith, r .1, cut-length 512 (now (a .args .slots))))
+    let r = series-room (a .args .u) (cut 512 (now (a .args .slots))) (senderIfNew (a .args .known .0) (now (a .args .head)) (cut 512 (now (a .args .series)))) (addedTo (a .args .slot .0) (now (a .args .places)) (cut 512 (now (a .args .series))) (length (now (a .args .series)) / 512)) (omega (arith, a .pre .0, cut-length 512 (now (a .args .slots)))) (s .add-sender .ensures) in
+    (a .pre .2, omega (arith, r, cut-length 512 (now (a .args .slots))))
 
 returns : tie.Need-returns
 returns c =
     let r = c .before .before in
     let s = r .before .before .before .before in
     let a = s .before .before .before .before .before in
-    let l = both-laid (a .args .known .0) (a .args .slot .0) (a .args .u) (cut 512 (now (a .args .slots))) (cut 512 (now (a .args .series))) (now (a .args .head)) (omega (arith, cut-length 512 (now (a .args .slots)))) (s .add-sender .ensures) (r .add-series .ensures) in
-    (l, omega (arith, l .end))
+    let l = both-laid (a .args .u) (cut 512 (now (a .args .slots))) (senderIfNew (a .args .known .0) (now (a .args .head)) (cut 512 (now (a .args .series)))) (addedTo (a .args .slot .0) (now (a .args .places)) (cut 512 (now (a .args .series))) (length (now (a .args .series)) / 512)) (omega (arith, a .pre .0, cut-length 512 (now (a .args .slots)))) (s .add-sender .ensures) (r .add-series .ensures) in
+    (l, omega (arith, a .pre .0, l .end))
 
 pub add-blocks-spec : {M : Type 1} → statement M
 add-blocks-spec = tie.close (tie.spec add-sender-requires add-series-requires (search needs) returns)

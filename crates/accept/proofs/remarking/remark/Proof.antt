@@ -14,12 +14,12 @@ touched c =
     let w = c .before .before in
     let k = w .before .before .before in
     let t = k .before .before .before in
-    let a = t .before .before .before .before .before .before in
+    let a = t .before .before .before .before .before in
     cut-lent (withMark (k .mark-in .result)) (now (a .args .us)) (a .args .i) (search needs) (w .write-mark .ensures) (omega arith)
-    ∙ ap (set (cut 512 (now (a .args .us))) (a .args .i)) (remarked-yes _ _ _ _ _ (t .if1 .taken) (cc) (cc))
+    ∙ ap (set (cut 512 (now (a .args .us))) (a .args .i)) (remarked-yes _ _ _ _ _ (a .pre .4) (t .if1 .taken) (cc) (cc))
 
 untouched : tie.Need-returns-2
-untouched c = remarked-no _ _ _ _ _ (c .if1 .left) (cc)
+untouched c = let a = c .before .before .before .before .before in remarked-no _ _ _ _ _ (a .pre .4) (c .if1 .left) (cc)
 
 pub remark-spec : {M : Type 1} → statement M
 remark-spec =

@@ -19,32 +19,30 @@ the-sender c =
 
 absent : tie.Need-returns-2
 absent c =
-    let p = c .before in
-    let u = p .before .before in
+    let u = c .before in
     let s = u .before in
     let t = s .before .before in
-    renewed-absent _ _ _ _ (t .if1 .left) (cc) (u .if2 .taken) (s .is-series-of .ensures) _ (p .number-with-pair .ensures) (c .if3 .taken)
+    let a = t .before .before .before .before .before .before .before in
+    renewed-absent _ _ _ _ (t .if1 .left) (cc) (u .if2 .taken) (s .is-series-of .ensures) _ (a .pre .3) (c .if3 .taken)
 
 write-series-requires : tie.Need-write-series-requires
 write-series-requires c κs =
-    let o = c .before .before in
-    let p = o .before in
-    let a = p .before .before .before .before .before .before .before .before .before .before .before .before in
-    let k = p .number-with-pair .result in
-    a .pre .0 ∙ sym (ap length (c .block-at .ensures) ∙ block-whole (now (a .args .series)) (k - 1) (omega (arith, cut-length 512 (now (a .args .series)), place-within _ (cut 512 (now (a .args .series))) k (p .number-with-pair .ensures))))
+    let u = c .before .before .before in
+    let a = u .before .before .before .before .before .before .before .before .before .before in
+    let k = a .args .number in
+    a .pre .0 ∙ sym (ap length (c .block-at .ensures) ∙ block-whole (now (a .args .series)) (k - 1) (omega (arith, cut-length 512 (now (a .args .series)), place-within _ (cut 512 (now (a .args .series))) k (a .pre .3))))
 
 a-series : tie.Need-returns-3
 a-series c =
     let w = c .before .before in
     let b = w .before in
     let o = b .before .before in
-    let p = o .before in
-    let u = p .before .before in
+    let u = o .before in
     let s = u .before in
     let t = s .before .before in
     let a = t .before .before .before .before .before .before .before in
     w .write-series .ensures ∙ ap (withSendersSlot (a .args .slot .0)) (b .block-at .ensures)
-    ∙ renewed-series _ _ _ _ (t .if1 .left) (cc) (u .if2 .taken) (s .is-series-of .ensures) _ (p .number-with-pair .ensures) (o .if3 .left)
+    ∙ renewed-series _ _ _ _ (t .if1 .left) (cc) (u .if2 .taken) (s .is-series-of .ensures) _ (a .pre .3) (o .if3 .left)
 
 another : tie.Need-returns-4
 another c =
@@ -61,7 +59,6 @@ renew-spec =
     (λ c κs. search needs)
     (search needs)
     the-sender
-    (λ c κs. search needs)
     (λ c κs. search needs)
     (search needs)
     absent

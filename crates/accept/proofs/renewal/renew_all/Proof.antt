@@ -1,27 +1,42 @@
--- The blocks before i are renewed; what becomes of a block is told by it alone.
+-- The blocks before i are renewed; what becomes of a block is told by it alone, and block i, still as it was, has the number found for it.
 use Rattle.laws.specs.Kit.{needs, arith, _≡_, _∙_, _≤_, _-_, _/_, [], length}
 use denote.Ref.{now}
 use Rattle.laws.specs.Cut.{cut}
 use Rattle.laws.specs.Cut.Laws.{cut-length}
 use Rattle.laws.specs.Loops.{done, done-none, done-more-alone, done-all}
 use Rattle.paper.specs.Acceptance.{renewed}
+use Rattle.slots.proofs.Laws.{block-some}
 use Rattle.accept.proofs.Laws.Lent.{cut-lent}
+use Rattle.accept.proofs.Laws.Renewing.{number-of}
 use Rattle.accept.proofs.renewal.renew_all.Statement.{statement}
 use Rattle.accept.proofs.renewal.renew_all.Tie as tie
 
 abbrev Inv-loop : tie.InvT-loop
-Inv-loop us₀ head series own many i₀ us i = (i ≤ many) × (many ≡ length us₀ / 512) × (length us ≡ length us₀) × (cut 512 us ≡ done (λ l. renewed own head (cut 512 series)) (cut 512 us₀) i)
+Inv-loop us₀ head series numbers own many i₀ us i = (i ≤ many) × (many ≡ length us₀ / 512) × (length us ≡ length us₀) × (cut 512 us ≡ done (λ l. renewed own head (cut 512 series)) (cut 512 us₀) i)
 
 abbrev μ-loop : tie.MeasureT-loop
-μ-loop us₀ head series own many i₀ us i = many - i
+μ-loop us₀ head series numbers own many i₀ us i = many - i
 
 loop-holds : tie.Need-loop-holds Inv-loop μ-loop
 loop-holds c = (search needs, search needs, search needs, done-none _ _)
 
+renew-requires : tie.Need-renew-requires Inv-loop μ-loop
+renew-requires c κs =
+    let w = c .before in
+    let i = w .before .before .before in
+    let a = i .before .before .before .before in
+    let f = renewed (a .args .slot .0) (now (a .args .head)) (cut 512 (now (a .args .series))) in (
+      search needs,
+      a .pre .1,
+      a .pre .2,
+      number-of f (cut 512 (now (a .args .us))) _ (now (a .args .numbers)) (a .pre .3) (i .loop .i) (omega (arith, cut-length 512 (now (a .args .us)))) (cut 512 (i .loop .us)) (i .loop .inv .3) _ (w .wide .ensures) _
+          (block-some (i .loop .us) (i .loop .i) (omega arith)),
+    )
+
 loop-again : tie.Need-loop-again Inv-loop μ-loop
 loop-again c =
     let m = c .before .before in
-    let i = m .before .before .before in
+    let i = m .before .before .before .before .before in
     let a = i .before .before .before .before in
     let f = renewed (a .args .slot .0) (now (a .args .head)) (cut 512 (now (a .args .series))) in (
       omega arith,
@@ -46,10 +61,13 @@ renew-all-spec =
     loop-holds
     (search needs)
     (search needs)
-    (search needs)
-    (search needs)
-    (search needs)
     (λ c κs. search needs)
+    (search needs)
+    (search needs)
+    (search needs)
+    (search needs)
+    (search needs)
+    renew-requires
     (search needs)
     (search needs)
     loop-again

@@ -5,10 +5,10 @@ use Rattle.book_answers.proofs.message_calls.walked.Statement.{statemen
 use Rattle.book_answers.proofs.message_calls.walked.Tie as tie
 
 abbrev Inv : tie.InvT-loop
-Inv message count₀ sum₀ count sum = Unit {0}
+Inv message read count₀ sum₀ count sum = Unit {0}
 
 abbrev μ : tie.MeasureT-loop
-μ message count₀ sum₀ count sum = 200 - count
+μ message read count₀ sum₀ count sum = 200 - count
 
 pub walked-spec : {M : Type 1} → statement M
-walked-spec = tie.close (tie.spec Inv μ (λ c. search needs) (λ c. search needs) (λ c κs. search needs) (λ c. search needs) (λ c κs. search needs) (λ c. search needs) (λ c. search needs) (λ c. search needs) (λ c. search needs))
+walked-spec = tie.close (tie.spec Inv μ (λ c κs. search needs) (λ c. search needs) (λ c. search needs) (λ c κs. search needs) (λ c. search needs) (λ c κs. search needs) (λ c. search needs) (λ c. search needs) (λ c. search needs) (λ c. search needs))

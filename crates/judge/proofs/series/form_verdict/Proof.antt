@@ -1,12 +1,10 @@
 -- The four rules are joined as the definition joins them.
 use Rattle.laws.specs.Kit.{needs}
-use Rattle.paper.specs.Rules.{formVerdict}
 use Rattle.judge.proofs.Laws.{broken-by, then-two}
 use Rattle.judge.proofs.series.form_verdict.Statement.{statement}
 use Rattle.judge.proofs.series.form_verdict.Tie as tie
 
 returns : tie.Need-returns
-unfolding formVerdict
 returns c =
     let v10 = c .before .before .before in
     let v9 = v10 .before .before in
@@ -19,16 +17,4 @@ returns c =
 pub form-verdict-spec : {M : Type 1} → statement M
 form-verdict-spec =
     tie.close
-    (tie.spec
-    (search needs)
-    (search needs)
-    (λ c κs. search needs)
-    (search needs)
-    (search needs)
-    (search needs)
-    (search needs)
-    (search needs)
-    (search needs)
-    (search needs)
-    (search needs)
-    returns)
+    (tie.spec (λ c κs. search needs) (λ c κs. search needs) (λ c κs. search needs) (λ c κs. search needs) (λ c κs. search needs) (λ c κs. search needs) (λ c κs. search needs) (λ c κs. search needs) (λ c κs. search needs) (λ c κs. search needs) (λ c κs. search needs) returns)

@@ -1,31 +1,34 @@
--- The new series counted so far, and those among the rest, are all.
-use Rattle.laws.specs.Kit.{_+_, _-_, _/_, _≡_, _≤_, arith, drop, end-cut, length, needs, step-cut-at}
-use Rattle.laws.specs.Cut.{cut}
-use Rattle.laws.specs.Lists.{count, keep}
-use Rattle.laws.specs.Loops.{count-end, count-go, count-start}
-use Rattle.paper.specs.Book.{isSeriesOf}
-use Rattle.paper.specs.Rules.{isNew}
+-- The first i places are counted.
+use Rattle.laws.specs.Kit.{needs, arith, _≡_, refl, _≤_, _-_, take, length, at-end}
+use denote.Ref.{now}
+use Rattle.laws.specs.Tests.{is}
+use Rattle.laws.specs.Lists.{count}
+use Rattle.rules.proofs.Laws.{count-one-more}
 use Rattle.rules.proofs.whole.new_series.Statement.{statement}
 use Rattle.rules.proofs.whole.new_series.Tie as tie
 
 abbrev Inv-loop : tie.InvT-loop
-Inv-loop us slot series many n₀ i₀ n i = (i ≤ length series / 512) × (n ≤ i) × (count (isNew (keep (isSeriesOf (slot .0)) (cut 512 us))) (cut 512 series) ≡ n + count (isNew (keep (isSeriesOf (slot .0)) (cut 512 us))) (drop i (cut 512 series)))
+Inv-loop places many n₀ i₀ n i = (i ≤ many) × (n ≤ i) × (n ≡ count (λ k. is k 0) (take i places))
 
 abbrev μ-loop : tie.MeasureT-loop
-μ-loop us slot series many n₀ i₀ n i = length series / 512 - i
+μ-loop places many n₀ i₀ n i = many - i
+
+loop-holds : tie.Need-loop-holds Inv-loop μ-loop
+unfolding count
+loop-holds c = (omega arith, omega arith, refl)
+
+loop-again : tie.Need-loop-again Inv-loop μ-loop
+unfolding is
+loop-again c =
+    let t = c .before .before in
+    (omega arith, omega arith, count-one-more (λ k. is k 0) (now (t .before .before .args .places)) _ _ _ (t .before .loop .inv .2) (c .one-if .ensures .0) (omega arith))
+
+returns : tie.Need-returns Inv-loop μ-loop
+returns c =
+    let l = c .before .loop in
+    (at-end (λ k. count (λ j. is j 0) (take k (now (c .before .before .args .places)))) (l .inv .2) (l .inv .0) (c .loop-test .left), omega (arith, l .inv .0, l .inv .1))
 
 pub new-series-spec : {M : Type 1} → statement M
 new-series-spec =
     tie.close
-    (tie.spec
-    Inv-loop
-    μ-loop
-    (λ c. (omega arith, omega arith, count-start _ _))
-    (search needs)
-    (search needs)
-    (search needs)
-    (search needs)
-    (search needs)
-    (search needs)
-    (λ c. let t = c .before .before .before in (omega arith, omega arith, count-go _ (t .before .loop .n) (t .before .loop .inv .2) (step-cut-at _ _ _ (t .loop-test .taken)) (cc)))
-    (λ c. (count-end _ _ (c .before .loop .inv .2) (end-cut _ _ _ (c .loop-test .left)), omega arith)))
+    (tie.spec Inv-loop μ-loop loop-holds (search needs) (search needs) (λ c κs. search needs) (search needs) (search needs) (search needs) loop-again returns)

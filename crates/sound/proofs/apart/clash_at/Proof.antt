@@ -6,9 +6,8 @@ use Rattle.sound.proofs.apart.clash_at.Tie as tie
 
 returns : tie.Need-returns
 returns c =
-    let i = c .before .before .before in
-    let p = i .before .before .before .before .pre in
-    tags-apart _ _ _ _ _ _ (p .1) (p .2) (p .3) (i .if1 .taken) (c .if2 .taken)
+    let p = c .before .before .before .before .before .before .pre in
+    tags-apart _ _ _ _ _ _ (p .1) (p .2) (p .3) (c .if1 .taken)
 
 pub clash-at-spec : {M : Type 1} → statement M
 clash-at-spec =

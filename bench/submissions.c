@@ -1,0 +1,95 @@
+/* submissions CASE BOOK MESSAGE: writes the book and the message of a case to two files, for the programs that make the call. The sender is party 20.
+   No position of the day is closed. */
+#include "full_book.h"
+
+enum { SENDERS = 20 };
+
+static uint8_t message[(MOST_SERIES + 1) * BLOCK];
+static unsigned many;
+
+static void seal_message(void) {
+    for (size_t i = 0; i <= many; i++) tetherbay_seal(message + BLOCK * i, BLOCK);
+}
+
+/* The first twenty series are sold to the other senders, at their quantities and then by an added kilowatt at other ones; the rest is bought. */
+static void make_message(unsigned series, unsigned version, uint32_t added) {
+    many = series;
+    sender_block(message, book, SENDERS, version, series);
+    for (unsigned k = 0; k < series; k++) {
+        uint8_t *x = message + BLOCK * (k + 1);
+        if (k < SENDERS)
+            series_block(x, book, k, version, k, SENDERS, 1000 * (SENDERS - 1 - k) + k % 2 + added);
+        else
+            series_block(x, book, k, version, SENDERS, k + 1, 1000 * k + added);
+    }
+    seal_message();
+}
+
+static void submit(void) {
+    if (tetherbay_submit(book, sizeof book, message, BLOCK * (many + 1)).number) exit(5);
+}
+
+/* 1,000 slots used: the sender has 200 series stored, and its message changes all of them. */
+static void all_changed(void) {
+    make_book(SENDERS, SLOTS - MOST_SERIES - 1);
+    make_message(MOST_SERIES, 1, 0);
+    submit();
+    make_message(MOST_SERIES, 2, 100);
+}
+
+static void one_into_empty(void) {
+    make_book(0, 0);
+    make_message(1, 1, 0);
+}
+
+static void one_into_full(void) {
+    make_book(SENDERS, SLOTS - 2);
+    make_message(1, 1, 0);
+}
+
+static void all_new(void) {
+    make_book(SENDERS, SLOTS - MOST_SERIES - 1);
+    make_message(MOST_SERIES, 1, 0);
+}
+
+static void wrong_check(void) {
+    all_changed();
+    message[BLOCK * many + 508] ^= 1;
+}
+
+/* The last series has the first one's id. */
+static void id_twice(void) {
+    all_changed();
+    memcpy(message + BLOCK * many + 8, message + BLOCK + 8, 16);
+    seal_message();
+}
+
+static void one_absent(void) {
+    all_changed();
+    make_message(MOST_SERIES - 1, 2, 100);
+}
+
+static const struct {
+    const char *name;
+    void (*make)(void);
+} cases[] = {
+    {"one-into-empty", one_into_empty}, {"one-into-full", one_into_full}, {"all-new", all_new}, {"all-changed", all_changed},
+    {"wrong-check", wrong_check}, {"id-twice", id_twice}, {"one-absent", one_absent},
+};
+
+static void write_file(const char *name, const uint8_t *bytes, size_t length) {
+    FILE *f = fopen(name, "wb");
+    if (!f || fwrite(bytes, 1, length, f) != length || fclose(f)) exit(6);
+}
+
+int main(int argc, char **argv) {
+    if (argc != 4) return 2;
+    for (size_t i = 0; i < sizeof cases / sizeof *cases; i++) {
+        if (strcmp(cases[i].name, argv[1])) continue;
+        cases[i].make();
+        write_file(argv[2], book, sizeof book);
+        write_file(argv[3], message, BLOCK * (many + 1));
+        return 0;
+    }
+    return 2;
+}

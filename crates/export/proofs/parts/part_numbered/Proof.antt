@@ -1,0 +1,16 @@
+-- The three returns are the three cases of the definition.
+use Rattle.laws.specs.Kit.{needs, _∙_}
+use Rattle.export.proofs.Laws.{part-first, part-past, part-inside}
+use Rattle.export.proofs.parts.part_numbered.Statement.{statement}
+use Rattle.export.proofs.parts.part_numbered.Tie as tie
+
+pub part-numbered-spec : {M : Type 1} → statement M
+part-numbered-spec =
+    tie.close
+    (tie.spec
+    (search needs)
+    (λ c. c .nothing .ensures ∙ part-first _ _ (c .before .if1 .taken))
+    (search needs)
+    (λ c. c .nothing2 .ensures ∙ part-past _ _ (c .before .before .if1 .left) (c .before .if2 .taken))
+    (search needs)
+    (λ c. part-inside _ _ (c .before .if1 .left) (c .if2 .left)))

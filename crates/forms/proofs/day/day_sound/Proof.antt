@@ -1,0 +1,15 @@
+-- The tests are the definition's.
+use Rattle.laws.specs.Kit.{needs}
+use Rattle.laws.specs.Tests.{_and_}
+use Rattle.paper.specs.Sound.{daySound}
+use Rattle.forms.proofs.day.day_sound.Statement.{statement}
+use Rattle.forms.proofs.day.day_sound.Tie as tie
+
+returns : tie.Need-returns
+unfolding daySound _and_
+returns c = cc
+
+pub day-sound-spec : {M : Type 1} → statement M
+day-sound-spec =
+    tie.close
+    (tie.spec (λ c κs. search needs) (λ c κs. search needs) (λ c κs. search needs) (λ c κs. search needs) (λ c κs. search needs) (λ c κs. search needs) returns)

@@ -1,0 +1,15 @@
+-- The tests are the definition's.
+use Rattle.laws.specs.Kit.{needs}
+use Rattle.laws.specs.Tests.{_or_, is}
+use Rattle.paper.specs.Sound.{partnerSound}
+use Rattle.forms.proofs.series.partner_sound.Statement.{statement}
+use Rattle.forms.proofs.series.partner_sound.Tie as tie
+
+returns : tie.Need-returns
+unfolding partnerSound _or_ is
+returns c = cc
+
+pub partner-sound-spec : {M : Type 1} → statement M
+partner-sound-spec =
+    tie.close
+    (tie.spec (λ c κs. search needs) (λ c κs. search needs) (λ c κs. search needs) (λ c κs. search needs) returns)

@@ -1,0 +1,15 @@
+-- The tests are the definition's.
+use Rattle.laws.specs.Kit.{needs}
+use Rattle.laws.specs.Tests.{_and_, upto}
+use Rattle.paper.specs.Sound.{seriesValues}
+use Rattle.forms.proofs.series.series_values.Statement.{statement}
+use Rattle.forms.proofs.series.series_values.Tie as tie
+
+returns : tie.Need-returns
+unfolding seriesValues _and_ upto
+returns c = cc
+
+pub series-values-spec : {M : Type 1} → statement M
+series-values-spec =
+    tie.close
+    (tie.spec (λ c κs. search needs) (search needs) (λ c κs. search needs) (λ c κs. search needs) (λ c κs. search needs) (λ c κs. search needs) returns)

@@ -1,0 +1,54 @@
+// The ranges of the fields.
+ghost use mathlib.Core.Path.{_≡_};
+ghost use Rattle.paper.specs.Ranges.{wholeBlocks, nAllowed, leadAllowed, clockAllowed, versionAllowed, countAllowed, quantityAllowed, netAllowed};
+use paper::Minute;
+
+pub fn whole_blocks(least: usize, most: usize, b: &[u8]) -> bool
+    ensures { λ r. ⌜ r ≡ wholeBlocks least most (now (b .entry)) ⌝ }
+{
+    (b.len() % 512 == 0) & (least <= b.len() / 512) & (b.len() / 512 <= most)
+}
+
+// A day of 23, 24 or 25 hours.
+pub fn n_allowed(n: u8) -> bool
+    ensures { λ r. ⌜ r ≡ nAllowed n ⌝ }
+{
+    (n == 92) | (n == 96) | (n == 100)
+}
+
+pub fn lead_allowed(lead: u16) -> bool
+    ensures { λ r. ⌜ r ≡ leadAllowed lead ⌝ }
+{
+    lead <= 1440
+}
+
+pub fn clock_allowed(minute: Minute) -> bool
+    ensures { λ r. ⌜ r ≡ clockAllowed (minute .0) ⌝ }
+{
+    minute.0 <= 11580
+}
+
+pub fn version_allowed(version: u16) -> bool
+    ensures { λ r. ⌜ r ≡ versionAllowed version ⌝ }
+{
+    (1 <= version) & (version <= 999)
+}
+
+pub fn count_allowed(count: u16) -> bool
+    ensures { λ r. ⌜ r ≡ countAllowed count ⌝ }
+{
+    (1 <= count) & (count <= 200)
+}
+
+pub fn quantity_allowed(kilowatts: u32) -> bool
+    ensures { λ r. ⌜ r ≡ quantityAllowed kilowatts ⌝ }
+{
+    kilowatts <= 9999999
+}
+
+// A net below 0 stands in the upper half of the four bytes' numbers.
+pub fn net_allowed(net: u32) -> bool
+    ensures { λ r. ⌜ r ≡ netAllowed net ⌝ }
+{
+    (net <= 1999999800) | (2294967496 <= net)
+}

@@ -1,0 +1,96 @@
+// A series block.
+ghost use mathlib.Core.Path.{_≡_};
+ghost use Prim.Native.Nat.{_≤_};
+ghost use Rattle.laws.specs.Cut.{cut};
+ghost use Rattle.paper.specs.Layout.{nOf};
+ghost use Rattle.paper.specs.Sound.{partiesOf, ownerSound, partnerSound, seriesFields, seriesCodes, seriesValues, seriesSound};
+ghost use Rattle.eic.specs.Table.{IsTable};
+use super::entries::quantities_allowed;
+use super::ranges::version_allowed;
+use eic::eic_valid_with;
+use field::all_zero;
+use field::id_well_formed;
+use field::part_of;
+use field::same;
+use layout::agreement;
+use layout::area;
+use layout::business_type;
+use layout::contract_type;
+use layout::first;
+use layout::id_of;
+use layout::in_area;
+use layout::in_party;
+use layout::n_of;
+use layout::out_area;
+use layout::out_party;
+use layout::pair;
+use layout::partner;
+use layout::sender;
+use layout::senders_slot;
+use layout::state;
+use layout::version;
+use slots::is_sender;
+use slots::is_series;
+use slots::numbered;
+
+// A submission asks the same of a message's series.
+pub fn parties_of(e: &[u8], p: &[u8]) -> bool
+    ensures { λ r. ⌜ r ≡ partiesOf (now (e .entry)) (now (p .entry)) ⌝ }
+{
+    let one = part_of(p, 0, 16);
+    let other = part_of(p, 16, p.len());
+    !same(one, other) & (same(one, e) | same(other, e))
+}
+
+fn owner_sound(us: &[u8], x: &[u8]) -> bool
+    ensures { λ r. ⌜ r ≡ ownerSound (cut 512 (now (us .entry))) (now (x .entry)) ⌝ }
+{
+    let owner = numbered(us, senders_slot(x));
+    is_sender(owner) & parties_of(sender(owner), pair(x))
+}
+
+fn partner_sound(us: &[u8], x: &[u8]) -> bool
+    ensures { λ r. ⌜ r ≡ partnerSound (cut 512 (now (us .entry))) (now (x .entry)) ⌝ }
+{
+    (partner(x).0 == 0) | is_series(numbered(us, partner(x)))
+}
+
+fn series_fields(d: &[u8], x: &[u8]) -> bool
+    ensures { λ r. ⌜ r ≡ seriesFields (now (d .entry)) (now (x .entry)) ⌝ }
+{
+    (n_of(x) == n_of(d))
+        & version_allowed(version(x))
+        & (business_type(x) == 2)
+        & (contract_type(x) == 0)
+        & id_well_formed(id_of(x))
+}
+
+fn series_codes(table: &[u8; 256], d: &[u8], x: &[u8]) -> bool
+    requires { ⌜ IsTable (now table) ⌝ }
+    ensures { λ r. ⌜ r ≡ seriesCodes (now (d .entry)) (now (x .entry)) ⌝ }
+{
+    same(in_area(x), area(d))
+        & same(out_area(x), area(d))
+        & eic_valid_with(table, in_party(x))
+        & eic_valid_with(table, out_party(x))
+        & all_zero(agreement(x))
+}
+
+fn series_values(d: &[u8], x: &[u8]) -> bool
+    requires { ⌜ nOf (now d) ≤ 100 ⌝ }
+    ensures { λ r. ⌜ r ≡ seriesValues (now (d .entry)) (now (x .entry)) ⌝ }
+{
+    let n = n_of(d) as usize;
+    (1 <= state(x)) & (state(x) <= 3) & (first(x).0 <= n) & quantities_allowed(n, x)
+}
+
+pub fn series_sound(table: &[u8; 256], d: &[u8], us: &[u8], x: &[u8]) -> bool
+    requires { ⌜ IsTable (now table) × (nOf (now d) ≤ 100) ⌝ }
+    ensures { λ r. ⌜ r ≡ seriesSound (now (d .entry)) (cut 512 (now (us .entry))) (now (x .entry)) ⌝ }
+{
+    series_fields(d, x)
+        & series_codes(table, d, x)
+        & series_values(d, x)
+        & owner_sound(us, x)
+        & partner_sound(us, x)
+}

@@ -1,0 +1,1 @@
+-- No law beside those of the links.

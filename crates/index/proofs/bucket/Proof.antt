@@ -1,0 +1,12 @@
+-- The remainder is small.
+use Rattle.laws.specs.Kit.{needs, arith}
+use Rattle.index.specs.Linked.{bucket}
+use Rattle.index.proofs.bucket.Statement.{statement}
+use Rattle.index.proofs.bucket.Tie as tie
+
+returns : tie.Need-returns
+unfolding bucket
+returns c = (rw (c .check-bytes .ensures), omega arith)
+
+pub bucket-spec : {M : Type 1} → statement M
+bucket-spec = tie.close (tie.spec (λ c κs. search needs) (search needs) returns)

@@ -1,0 +1,2 @@
+-- Blocks linked by a field, and what a search along the links finds.
+pub mod Linked

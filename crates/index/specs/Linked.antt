@@ -1,0 +1,57 @@
+-- Blocks in a row, linked in buckets by the bytes of a field: a search meets no block of another bucket.
+pub mod Laws
+use mathlib.Core.Path.{_≡_}
+use mathlib.Core.Bool.{Bool, true, cond}
+use mathlib.Core.List.{List, []}
+use Prim.Native.Nat.{ℕ, _+_, _≤_, _<_, _%_}
+use lib.ListN.{length, drop, getD}
+use Rattle.laws.specs.Tests.{_and_, is}
+use Rattle.laws.specs.Lists.{same, place}
+use Rattle.laws.specs.Loops.{placeFrom}
+use Rattle.paper.specs.Check.{checkFrom}
+use Rattle.paper.specs.Layout.{Bytes, Block, idOf, pair}
+use Rattle.paper.specs.Book.{isSeries, isSeriesOf}
+
+-- one of 1,024: blocks with the same bytes share it, and few others
+unfoldable pub bucket : Bytes → ℕ
+bucket v = checkFrom 0 v % 1024
+
+-- what a series is sought by: its id, or its pair of parties
+unfoldable pub keyOf : Bool → Block → Bytes
+keyOf byId x = cond byId (idOf x) (pair x)
+
+-- ---- which blocks are linked, and in which bucket
+
+unfoldable pub ownIn : ℕ → Bool → ℕ → Block → Bool
+ownIn slot byId g x = isSeriesOf slot x and is (bucket (keyOf byId x)) g
+
+unfoldable pub seriesIn : ℕ → Block → Bool
+seriesIn g x = isSeries x and is (bucket (pair x)) g
+
+-- ---- the links, from block i on; places are counted from 1, and 0 says that there is none
+
+module _ (p : ℕ → Block → Bool) (l : List Block) where
+  -- of each bucket the first block
+  unfoldable pub Heads : ℕ → List ℕ → Type 0
+  Heads i heads = (g : ℕ) → g < 1024 → getD heads g 0 ≡ placeFrom i (p g) (drop i l)
+
+  -- of each block the next of its bucket
+  unfoldable pub Nexts : ℕ → List ℕ → Type 0
+  Nexts i nexts = (j : ℕ) → i ≤ j → j < length l → (g : ℕ) → p g (getD l j []) ≡ true → getD nexts j 0 ≡ placeFrom (j + 1) (p g) (drop (j + 1) l)
+
+  pub record Links (i : ℕ) (heads nexts : List ℕ) : Type 0 where
+    pub begin : Heads i heads
+    pub go-on : Nexts i nexts
+    pub buckets : length heads ≡ 1024
+    pub many : length nexts ≡ 1000
+
+-- ---- what is sought
+
+-- x is a series of the sender in a slot, and has a key
+unfoldable pub ownWith : ℕ → Bool → Bytes → Block → Bool
+ownWith slot byId v x = isSeriesOf slot x and same (keyOf byId x) v
+
+-- of each of some blocks the place, in l, of the sender's first series with the same key
+pub record Found (slot : ℕ) (byId : Bool) (l of : List Block) (found : List ℕ) : Type 0 where
+  pub each : (k : ℕ) → k < length of → getD found k 0 ≡ place (ownWith slot byId (keyOf byId (getD of k []))) l
+  pub room : length found ≡ 1000

@@ -1,0 +1,247 @@
+-- The links made, from the last block back, and followed: what they leave out is of other buckets.
+use mathlib.Core.Path.{_≡_, refl, sym, ap, _∙_}
+use mathlib.Core.Bool.{Bool, true, false, cond}
+use mathlib.Core.List.{List, [], _∷_}
+use Prim.Native.Nat.{ℕ, zero, suc, _+_, _-_, _/_, _≤_, _<_}
+use native.Mathlib.Nat.{add-zero}
+use native.Mathlib.Numerals.{add-one}
+use native.Mathlib.Omega.{arith}
+use lib.ListN.{length, take, drop, getD, set, length-drop, length-set, drop-of-length-le}
+use lib.Seq.{drop-cons, drop-drop, getD-drop, getD-set-same, getD-set-other}
+use Rattle.laws.specs.Tests.{_and_, is, less}
+use Rattle.laws.specs.Tests.Laws.{split, clash, is-yes, is-no, is-equal, less-yes, less-no, and-left, and-right, and-both, or-left, or-right, or-no}
+use Rattle.laws.specs.Lists.{has, place, same}
+use Rattle.laws.specs.Lists.Laws.{all-imply, every-all, all-getD, same-yes}
+use Rattle.laws.specs.Cut.{cut}
+use Rattle.laws.specs.Cut.Laws.{cut-length}
+use Rattle.laws.specs.Loops.{Step, placeFrom, place-start, place-go, place-hit}
+use Rattle.paper.specs.Layout.{Bytes, Block, zeros, pair}
+use Rattle.paper.specs.Book.{isSeries, isSeriesOf}
+use Rattle.index.specs.Linked.{bucket, keyOf, ownIn, seriesIn, Heads, Nexts, Links, ownWith, Found}
+
+-- ---- the first that passes p, from t on
+
+module _ {X : Type 0} (p : X → Bool) where
+  hit : (d : X) (t : ℕ) (r : List X) (n : ℕ) → suc n ≡ placeFrom t p r → (m : ℕ) × (n ≡ t + m) × (m < length r) × (has p (take m r) ≡ false) × (p (getD r m d) ≡ true)
+  unfolding placeFrom has
+  hit d t [] n e = absurd (omega arith)
+  hit d t (x ∷ xs) n e = split (p x) (λ u. let z : suc n ≡ t + 1 = rw u at e in (0, omega arith, omega arith, refl, u))
+      (λ u. let h = hit d (t + 1) xs n (rw u at e) in (suc (h .0), omega (arith, h .1), omega (arith, h .2), or-no _ _ u (h .3), h .4))
+
+  module _ (q : X → Bool) (f : (x : X) → q x ≡ true → p x ≡ true) where
+    misses : (x : X) → p x ≡ false → q x ≡ false
+    misses x e = split (q x) (λ u. clash (f x u) e) (λ u. u)
+
+    -- what passes q passes p: up to the first that passes p there is nothing to find
+    none-sought : (t : ℕ) (r : List X) → 0 ≡ placeFrom t p r → placeFrom t q r ≡ 0
+    unfolding placeFrom
+    none-sought t [] e = refl
+    none-sought t (x ∷ xs) e = split (p x) (λ u. absurd (let z : 0 ≡ t + 1 = rw u at e in omega arith)) (λ u. rw (misses x u) (none-sought (t + 1) xs (rw u at e)))
+
+    passed-by : (m t : ℕ) (r : List X) → has p (take m r) ≡ false → m ≤ length r → placeFrom t q r ≡ placeFrom (t + m) q (drop m r)
+    unfolding placeFrom has
+    passed-by zero t r e h = ap (λ k. placeFrom k q r) (sym (add-zero t))
+    passed-by (suc m) t [] e h = absurd (omega arith)
+    passed-by (suc m) t (x ∷ xs) e h =
+        let k : t + 1 + m ≡ t + suc m = omega arith in
+        rw (misses x (or-left _ _ e)) (passed-by m (t + 1) xs (or-right _ _ e) (omega arith) ∙ ap (λ j. placeFrom j q (drop m xs)) k)
+
+-- ---- a search on its way: w is sought by q among the blocks linked by p, and at is the place where it stands
+
+pub record On (p q : Block → Bool) (l : List Block) (w at : ℕ) : Type 0 where
+  pub last : at ≡ 0 → w ≡ 0
+  pub inside : (at ≡ 0 → ⊥) → at - 1 < length l
+  pub linked : (at ≡ 0 → ⊥) → p (getD l (at - 1) []) ≡ true
+  pub rest : (at ≡ 0 → ⊥) → w ≡ placeFrom (at - 1) q (drop (at - 1) l)
+
+module _ (p q : Block → Bool) (f : (x : Block) → q x ≡ true → p x ≡ true) (l : List Block) (w : ℕ) where
+  pub record From (t at : ℕ) : Type 0 where
+    pub on : On p q l w at
+    pub later : (at ≡ 0 → ⊥) → t ≤ at - 1
+
+  from : (t at : ℕ) → at ≡ placeFrom t p (drop t l) → w ≡ placeFrom t q (drop t l) → From t at
+  from t zero e a = record {
+    on = record { last = λ z. a ∙ none-sought p q f t (drop t l) e; inside = λ n. absurd (n refl); linked = λ n. absurd (n refl); rest = λ n. absurd (n refl) };
+    later = λ n. absurd (n refl);
+  }
+  from t (suc n) e a =
+      let h = hit p [] t (drop t l) n e in
+      let m : ℕ = h .0 in
+      let i : m < length (drop t l) = h .2 in
+      let k : suc n - 1 ≡ t + m = omega (arith, h .1) in
+      record {
+        on = record {
+          last = λ z. absurd (omega arith);
+          inside = λ _. omega (arith, length-drop t l);
+          linked = λ _. rw k (ap p (sym (getD-drop t l m [])) ∙ h .4);
+          rest = λ _. rw k (a ∙ passed-by p q f m t (drop t l) (h .3) (omega arith) ∙ ap (placeFrom (t + m) q) (drop-drop m t l));
+        };
+        later = λ _. omega arith;
+      }
+
+step-at : (l : List Block) (i : ℕ) → i < length l → Step l i (getD l i [])
+step-at l i h = record { rest = drop-cons l i [] h ∙ ap (λ k. getD l i [] ∷ drop k l) (sym (add-one i)) }
+
+-- how far it is to the end
+unfoldable pub left : ℕ → ℕ
+left zero = 0
+left (suc n) = 1001 - suc n
+
+-- the search among the blocks of some bytes: from the first block of a bucket, and from a block to the next
+module _ (p : ℕ → Block → Bool) (s : Bytes) (heads nexts : List ℕ) (few : length s / 512 ≤ 1000) (a : Links p (cut 512 s) 0 heads nexts) (q : Block → Bool) (g : ℕ) (f : (x : Block) → q x ≡ true → p g x ≡ true) where
+  abbrev l : List Block
+  l = cut 512 s
+
+  left-less : (j m : ℕ) → (j ≡ 0 → ⊥) → j - 1 < length l → ((m ≡ 0 → ⊥) → j - 1 + 1 ≤ m - 1) → ((m ≡ 0 → ⊥) → m - 1 < length l) → left m < left j
+  unfolding left
+  left-less zero m c d u v = absurd (c refl)
+  left-less (suc j) zero c d u v = omega (arith, cut-length 512 s)
+  left-less (suc j) (suc m) c d u v = omega (arith, cut-length 512 s, u (λ z. omega arith), v (λ z. omega arith))
+
+  pub begun : {b at : ℕ} → b ≡ g → b < 1024 → at ≡ getD heads b 0 → On (p g) q l (place q l) at
+  unfolding Heads
+  begun {b} e h k = from (p g) q f l (place q l) 0 _ (k ∙ ap (λ j. getD heads j 0) e ∙ a .begin g (rw e at h)) (place-start q l) .on
+
+  module _ (at : ℕ) (o : On (p g) q l (place q l) at) (n : at ≡ 0 → ⊥) where
+    pub inside : at - 1 < 1000
+    inside = omega (arith, o .inside n, cut-length 512 s)
+
+    module _ {t : Bool} {x : Block} (e : x ≡ getD l (at - 1) []) (r : t ≡ q x) where
+      pub found : t ≡ true → at ≡ place q l
+      found y = let z : at - 1 + 1 ≡ at = omega arith in sym z ∙ place-hit q (o .rest n) (step-at l (at - 1) (o .inside n)) (ap q (sym e) ∙ sym r ∙ y)
+
+      module _ (y : t ≡ false) {m : ℕ} (k : m ≡ getD nexts (at - 1) 0) where
+        onward : From (p g) q f l (place q l) (at - 1 + 1) m
+        unfolding Nexts
+        onward =
+            from (p g) q f l (place q l) (at - 1 + 1) _ (k ∙ a .go-on (at - 1) (omega arith) (o .inside n) g (o .linked n))
+            (place-go q (o .rest n) (step-at l (at - 1) (o .inside n)) (ap q (sym e) ∙ sym r ∙ y))
+
+        pub going : On (p g) q l (place q l) m
+        going = onward .on
+
+        -- a step further is nearer to the end: places grow, and the end is 0
+        pub nearer : left m < left at
+        nearer = left-less at m n (o .inside n) (onward .later) (onward .on .inside)
+
+-- ---- the links made: block i − 1 is put before those of its bucket that come later, or left out
+
+module _ (p : ℕ → Block → Bool) (l : List Block) where
+  heads-none : (h : List ℕ) → zeros h ≡ true → (m : ℕ) → length l ≤ m → Heads p l m h
+  unfolding Heads zeros placeFrom
+  heads-none h z m k g i =
+      all-getD (λ x. x ≡ 0) h g 0 refl (all-imply (λ x. is x 0 ≡ true) (λ x. x ≡ 0) (λ x. is-yes x 0) h (every-all _ h z))
+      ∙ sym (ap (placeFrom m (p g)) (drop-of-length-le l {i = m} k))
+
+  nexts-none : (n : List ℕ) (m : ℕ) → length l ≤ m → Nexts p l m n
+  unfolding Nexts
+  nexts-none n m k j a b = absurd (omega arith)
+
+  module _ (k : ℕ) (i : k < length l) where
+    turn : (g : ℕ) → placeFrom k (p g) (drop k l) ≡ cond (p g (getD l k [])) (k + 1) (placeFrom (k + 1) (p g) (drop (k + 1) l))
+    unfolding placeFrom
+    turn g = ap (placeFrom k (p g)) (step-at l k i .rest)
+
+    module _ (h n : List ℕ) (a : Heads p l (suc k) h) where
+      heads-left-at : ((g : ℕ) → p g (getD l k []) ≡ false) → Heads p l k h
+      unfolding Heads
+      heads-left-at f g c = a g c ∙ sym (turn g ∙ rw (f g, add-one k))
+
+      heads-put-at : (b : ℕ) → ((g : ℕ) → p g (getD l k []) ≡ is b g) → b < length h → Heads p l k (set h b (suc k))
+      unfolding Heads
+      heads-put-at b f w g c =
+          split (is b g)
+          (λ u. rw (turn g, f g, u, add-one k, ← is-yes b g u) (getD-set-same h b (suc k) 0 w))
+          (λ u. rw (turn g, f g, u, add-one k) (getD-set-other h b g (suc k) 0 (λ q. is-no b g u (sym q)) ∙ a g c))
+
+      module _ (m : Nexts p l (suc k) n) where
+        nexts-left-at : ((g : ℕ) → p g (getD l k []) ≡ false) → Nexts p l k n
+        unfolding Nexts
+        nexts-left-at f j c d g e =
+            split (less k j)
+            (λ u. m j (less-yes k j u) d g e)
+            (λ u. let q : j ≡ k = omega (arith, less-no k j u) in clash e (rw q (f g)))
+
+        nexts-put-at : (b : ℕ) → ((g : ℕ) → p g (getD l k []) ≡ is b g) → b < 1024 → k < length n → Nexts p l k (set n k (getD h b 0))
+        unfolding Heads Nexts
+        nexts-put-at b f w v j c d g e =
+            split (less k j)
+            (λ u. let z : k < j = less-yes k j u in getD-set-other n k j _ 0 (λ q. omega arith) ∙ m j z d g e)
+            (λ u.
+            let q : j ≡ k = omega (arith, less-no k j u) in
+            let y : b ≡ g = is-yes b g (sym (f g) ∙ (rw q at e)) in
+            rw (q, ← y, add-one k) (getD-set-same n k _ 0 v ∙ a b w))
+
+  pub none : (h n : List ℕ) → zeros h ≡ true → length h ≡ 1024 → length n ≡ 1000 → (m : ℕ) → length l ≤ m → Links p l m h n
+  none h n z v w m k = record { begin = heads-none h z m k; go-on = nexts-none n m k; buckets = v; many = w }
+
+  module _ (h n : List ℕ) {x : Block} where
+    pub left-out : (i : ℕ) → 0 < i → i ≤ length l → Links p l i h n → x ≡ getD l (i - 1) [] → ((g : ℕ) → p g x ≡ false) → Links p l (i - 1) h n
+    left-out zero c d a e f = absurd (omega arith)
+    left-out (suc k) c d a e f =
+        let z : suc k - 1 ≡ k = omega arith in
+        let y : x ≡ getD l k [] = rw z at e in
+        rw z (record { begin = heads-left-at k (omega arith) h n (a .begin) (rw y at f); go-on = nexts-left-at k (omega arith) h n (a .begin) (a .go-on) (rw y at f); buckets = a .buckets; many = a .many })
+
+    pub put : (i b : ℕ) → 0 < i → i ≤ length l → i ≤ 1000 → Links p l i h n → x ≡ getD l (i - 1) [] → ((g : ℕ) → p g x ≡ is b g) → b < 1024 → Links p l (i - 1) (set h b i) (set n (i - 1) (getD h b 0))
+    put zero b c d t a e f w = absurd (omega arith)
+    put (suc k) b c d t a e f w =
+        let z : suc k - 1 ≡ k = omega arith in
+        let y : x ≡ getD l k [] = rw z at e in
+        rw z (record {
+          begin = heads-put-at k (omega arith) h n (a .begin) b (rw y at f) (omega (arith, a .buckets));
+          go-on = nexts-put-at k (omega arith) h n (a .begin) (a .go-on) b (rw y at f) w (omega (arith, a .many));
+          buckets = length-set h b (suc k) ∙ a .buckets;
+          many = length-set n k (getD h b 0) ∙ a .many;
+        })
+
+pub all-linked : (p : ℕ → Block → Bool) (l : List Block) (h n : List ℕ) (i : ℕ) → i ≤ 0 → Links p l i h n → Links p l 0 h n
+all-linked p l h n i z a = let e : i ≡ 0 = omega arith in rw e at a
+
+-- ---- the two kinds of links
+
+module _ (slot : ℕ) (byId : Bool) (x : Block) where
+  pub own-out : isSeriesOf slot x ≡ false → (g : ℕ) → ownIn slot byId g x ≡ false
+  unfolding ownIn _and_
+  own-out e g = rw e
+
+  pub own-in : isSeriesOf slot x ≡ true → {b : ℕ} → b ≡ bucket (keyOf byId x) → (g : ℕ) → ownIn slot byId g x ≡ is b g
+  unfolding ownIn _and_
+  own-in e q g = rw (e, q)
+
+module _ (x : Block) where
+  pub series-out : isSeries x ≡ false → (g : ℕ) → seriesIn g x ≡ false
+  unfolding seriesIn _and_
+  series-out e g = rw e
+
+  pub series-in : isSeries x ≡ true → {b : ℕ} → b ≡ bucket (pair x) → (g : ℕ) → seriesIn g x ≡ is b g
+  unfolding seriesIn _and_
+  series-in e q g = rw (e, q)
+
+-- what is sought has the key's bucket
+module _ (slot : ℕ) (byId : Bool) (v : Bytes) (x : Block) where
+  pub own-linked : ownWith slot byId v x ≡ true → ownIn slot byId (bucket v) x ≡ true
+  unfolding ownWith ownIn
+  own-linked e = and-both _ _ (and-left _ _ e) (is-equal _ _ (ap bucket (same-yes _ _ (and-right _ _ e))))
+
+-- ---- of each block the place found
+
+unfoldable pub FoundUpto : ℕ → Bool → List Block → List Block → ℕ → List ℕ → Type 0
+FoundUpto slot byId l of i found = (k : ℕ) → k < i → getD found k 0 ≡ place (ownWith slot byId (keyOf byId (getD of k []))) l
+
+module _ (slot : ℕ) (byId : Bool) (l of : List Block) where
+  pub found-none : (f : List ℕ) → FoundUpto slot byId l of 0 f
+  unfolding FoundUpto
+  found-none f k h = absurd (omega arith)
+
+  pub found-more : (i : ℕ) (f : List ℕ) {x : Block} {v : Bytes} {n : ℕ} → i < length f → x ≡ getD of i [] → v ≡ keyOf byId x → n ≡ place (ownWith slot byId v) l
+      → FoundUpto slot byId l of i f → FoundUpto slot byId l of (i + 1) (set f i n)
+  unfolding FoundUpto
+  found-more i f h e q r a k c =
+      split (less k i)
+      (λ t. let w : k < i = less-yes k i t in getD-set-other f i k _ 0 (λ z. omega arith) ∙ a k w)
+      (λ t. let z : k ≡ i = omega (arith, less-no k i t) in rw z (getD-set-same f i _ 0 h ∙ r ∙ ap (λ w. place (ownWith slot byId w) l) (q ∙ ap (keyOf byId) e)))
+
+  pub found-all : (i : ℕ) (f : List ℕ) → length of ≤ i → length f ≡ 1000 → FoundUpto slot byId l of i f → Found slot byId l of f
+  unfolding FoundUpto
+  found-all i f h r a = record { each = λ k c. a k (omega arith); room = r }

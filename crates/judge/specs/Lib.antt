@@ -1,0 +1,2 @@
+-- What the judgement hands down, and what it hands on to the acceptance.
+pub mod Looked

@@ -1,0 +1,50 @@
+-- Which series have the same id or the same pair: found once, handed down to the rules and on to the acceptance.
+use mathlib.Core.Path.{_≡_}
+use mathlib.Core.Bool.{Bool, true, false}
+use mathlib.Core.List.{List}
+use Prim.Native.Nat.{ℕ, _≤_}
+use lib.ListN.{length}
+use Rattle.laws.specs.Tests.{_or_, neg}
+use Rattle.laws.specs.Lists.{apart, All}
+use Rattle.paper.specs.declared.Verdict.{Verdict}
+use Rattle.paper.specs.Layout.{Bytes, Block, idOf, sender}
+use Rattle.paper.specs.Ids.{idWellFormed}
+use Rattle.paper.specs.Book.{used, slotOf, isSeriesOf}
+use Rattle.paper.specs.Message.{headOf, seriesOf}
+use Rattle.paper.specs.Sound.{sameSeries}
+use Rattle.paper.specs.Rules.{numberOf, _then_, broken, rule8, rule9, rule10, valuesVerdict}
+use Rattle.index.specs.Linked.{Found}
+
+-- us are the used slots of a sound book, series those of a message that rule 2 lets pass
+pub record Taken (us series : List Block) : Type 0 where
+  pub few : length us ≤ 1000
+  pub short : length series ≤ 200
+  pub apart : apart sameSeries us ≡ true
+  pub kinds : All (λ y. isSeriesOf 0 y ≡ true) series
+
+-- of each series of the message: the message's first with its id, and with its pair, and the sender's stored ones
+pub record Looked (us series : List Block) (slot : ℕ) (firstIds firstPairs storedIds places : List ℕ) : Type 0 where
+  pub first-ids : Found 0 true series series firstIds
+  pub first-pairs : Found 0 false series series firstPairs
+  pub stored-ids : Found slot true us series storedIds
+  pub stored-pairs : Found slot false us series places
+
+-- the rules on series number s, by what is stored of it, x, and by whether another has its id or its pair
+unfoldable pub seriesBy : Block → Block → Block → Bool → ℕ → Block → Verdict
+seriesBy d h x otherwise s y =
+    (broken (neg (idWellFormed (idOf y)) or otherwise) 7 s 0 then broken (rule8 h y) 8 s 0 then broken (rule9 d y) 9 s 0 then broken (rule10 y) 10 s 0)
+    then valuesVerdict d h x s y
+
+-- what a message that passes hands on: of each of its series the slot, and of each used slot the message's series with its pair
+pub record Handed (v : Verdict) (slot : ℕ) (us series : List Block) (places numbers : List ℕ) : Type 0 where
+  pub on : numberOf v ≡ 0 → Found slot false us series places × Found 0 false series us numbers
+
+-- the same of a book and a message
+pub record Passed (book message : Bytes) (many slot : ℕ) (places numbers : List ℕ) : Type 0 where
+  pub many-used : many ≡ length (used book)
+  pub senders-slot : slot ≡ slotOf (used book) (sender (headOf message))
+  pub stored : Found slot false (used book) (seriesOf message) places
+  pub named : Found 0 false (seriesOf message) (used book) numbers
+
+pub record PassedIf (v : Verdict) (book message : Bytes) (many slot : ℕ) (places numbers : List ℕ) : Type 0 where
+  pub passed : numberOf v ≡ 0 → Passed book message many slot places numbers

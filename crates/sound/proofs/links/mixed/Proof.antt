@@ -1,0 +1,12 @@
+-- The sum fits into eight bytes and its remainder into four.
+use Rattle.laws.specs.Kit.{needs, arith}
+use Rattle.sound.specs.Links.{mixed}
+use Rattle.sound.proofs.links.mixed.Statement.{statement}
+use Rattle.sound.proofs.links.mixed.Tie as tie
+
+returns : tie.Need-returns
+unfolding mixed
+returns c = search needs
+
+pub mixed-spec : {M : Type 1} → statement M
+mixed-spec = tie.close (tie.spec (search needs) (search needs) (search needs) returns)

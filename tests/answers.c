@@ -1,0 +1,142 @@
+/* Known answers of every export, each field of each answer among them: that the header's types are those of the library. */
+#include "blocks.h"
+
+static unsigned wrong, asked;
+
+static void is(const char *what, uint64_t found, uint64_t expected) {
+    asked++;
+    if (found == expected) return;
+    wrong++;
+    printf("%s: %llu, not %llu\n", what, (unsigned long long)found, (unsigned long long)expected);
+}
+
+static uint8_t book[8 * BLOCK], message[3 * BLOCK];
+
+static const uint8_t *bytes(const char *text) { return (const uint8_t *)text; }
+
+static void leaves(void) {
+    uint8_t block[BLOCK] = {0}, id[16] = "TS0001", text[10] = "..........";
+    block[506] = 1;
+    is("check", tetherbay_check(block, BLOCK), 31);
+    is("checks right, a wrong one", tetherbay_checks_right(block, BLOCK), false);
+    tetherbay_seal(block, BLOCK);
+    is("seal", number(block + 508, 4), 31);
+    is("checks right", tetherbay_checks_right(block, BLOCK), true);
+    memset(block, 255, 508);
+    is("check, all its bits", tetherbay_check(block, BLOCK), 1715091520);
+    is("id", tetherbay_id_well_formed(id, 16), true);
+    is("id, a space", tetherbay_id_well_formed(bytes("TS 0001---------"), 16), false);
+    is("EIC", tetherbay_eic_valid(bytes("10XAT-APG------Z"), 16), true);
+    is("EIC, another last character", tetherbay_eic_valid(bytes("10XAT-APG------Y"), 16), false);
+    is("read, number", tetherbay_quantity_read(bytes("9999.999"), 8).number, 0);
+    is("read, kilowatts", tetherbay_quantity_read(bytes("9999.999"), 8).kilowatts, 9999999);
+    is("read, 30", tetherbay_quantity_read(bytes("10000"), 5).number, 30);
+    is("read, 31", tetherbay_quantity_read(bytes("-0"), 2).number, 31);
+    tetherbay_printed p = tetherbay_quantity_print(60000, text, sizeof text);
+    is("print, number", p.number, 0);
+    is("print, length", p.length, 6);
+    is("print, text", (uint64_t)memcmp(text, "60.000....", 10), 0);
+    is("print, 30", tetherbay_quantity_print(10000000, text, sizeof text).number, 30);
+    is("print, 32", tetherbay_quantity_print(60000, text, 5).number, 32);
+    is("code of 0", tetherbay_reason_code(0), 1);
+    is("code of 4", tetherbay_reason_code(4), 78);
+    is("code of the largest number", tetherbay_reason_code(UINT32_MAX), 0);
+}
+
+static uint32_t opened(uint8_t n, uint16_t lead, size_t length) {
+    return tetherbay_open(book, length, n, lead, bytes("20190131"), 8, bytes("10YAT-APG------L"), 16, bytes("14XAT-APCS-----Q"), 16);
+}
+
+static void seal_message(void) {
+    for (size_t at = 0; at < sizeof message; at += BLOCK) tetherbay_seal(message + at, BLOCK);
+}
+
+/* A party's first message: the trade of parties 1 and 2, at the highest values, and what it buys from party 3. */
+static void write_message(unsigned party) {
+    sender_block(message, book, party, 1, 2);
+    series_block(message + BLOCK, book, 1, 1, 2, 1, 9999900);
+    series_block(message + 2 * BLOCK, book, 2, 1, party, 3, 0);
+    seal_message();
+}
+
+static void submissions(void) {
+    write_message(1);
+    is("submit, number", tetherbay_submit(book, sizeof book, message, sizeof message).number, 0);
+    tetherbay_part p = tetherbay_series(message, sizeof message, 2);
+    is("series, offset", p.offset, 2 * BLOCK);
+    is("series, length", p.length, BLOCK);
+    p = tetherbay_series(message, sizeof message, 3);
+    is("series past the last, offset", p.offset, 0);
+    is("series past the last, length", p.length, 0);
+
+    write_message(2);
+    put(message + 2 * BLOCK + 108 + 4 * 98, 4, 0x80000000);
+    seal_message();
+    tetherbay_verdict v = tetherbay_judge(book, sizeof book, message, sizeof message);
+    is("judge, number", v.number, 11);
+    is("judge, series", v.series, 2);
+    is("judge, position", v.position, 99);
+    v = tetherbay_submit(book, sizeof book, message, sizeof message);
+    is("submit refused, number", v.number, 11);
+    is("submit refused, series", v.series, 2);
+    is("submit refused, position", v.position, 99);
+
+    write_message(2);
+    put(message + BLOCK + 108 + 4 * 99, 4, 7);
+    seal_message();
+    is("submit the other side, number", tetherbay_submit(book, sizeof book, message, sizeof message).number, 0);
+}
+
+/* Slots 1 to 6: party 1 and its two series, party 2 and its two. They differ at position 100. */
+static void readings(void) {
+    uint8_t one[16], two[16], id[16] = "SERIES-0001", text[400];
+    memcpy(one, eic(1), 16);
+    memcpy(two, eic(2), 16);
+    tetherbay_mark_answer m = tetherbay_mark(book, sizeof book, two, 16, id, 16);
+    is("mark, number", m.number, 0);
+    is("mark, state", m.state, 3);
+    is("mark, first", m.first, 100);
+    is("mark, partner", m.partner, 2);
+    is("mark, 23", tetherbay_mark(book, sizeof book, two, 16, id, 15).number, 23);
+    tetherbay_part p = tetherbay_accepted_block(book, sizeof book, two, 16, id, 16);
+    is("accepted block, offset", p.offset, 5 * BLOCK);
+    is("accepted block, length", p.length, BLOCK);
+    is("final, 25", tetherbay_final(book, sizeof book, one, 16, two, 16, 100).number, 25);
+
+    tetherbay_clock_answer c = tetherbay_clock(book, sizeof book, 11580);
+    is("clock, number", c.number, 0);
+    is("clock, n", c.state.n, 100);
+    is("clock, lead", c.state.lead, 1440);
+    is("clock, minute", c.state.clock, 11580);
+    c = tetherbay_clock(book, sizeof book, 65535);
+    is("clock, 22", c.number, 22);
+    is("clock kept", c.state.clock, 11580);
+
+    tetherbay_final_answer f = tetherbay_final(book, sizeof book, one, 16, two, 16, 100);
+    is("final, number", f.number, 0);
+    is("final, kilowatts", f.kilowatts, 9999999);
+    is("final, 24", tetherbay_final(book, sizeof book, one, 16, two, 16, SIZE_MAX).number, 24);
+    is("final, 26", tetherbay_final(book, sizeof book, two, 16, one, 16, 1).number, 26);
+    is("plain run, number", tetherbay_plain_run(book, sizeof book).number, 0);
+    is("plain run, holds", tetherbay_plain_run(book, sizeof book).holds, true);
+    is("listing, length", tetherbay_listing(book, sizeof book, text, sizeof text), 46 + 2 * 73 + 2 * 71);
+    is("listing, a buffer too short", tetherbay_listing(book, sizeof book, text, 45), 0);
+}
+
+int main(void) {
+    leaves();
+    is("open, 20", opened(100, 1440, sizeof book - 1), 20);
+    is("open, 21, n", opened(93, 1440, sizeof book), 21);
+    is("open, 21, lead", opened(100, 65535, sizeof book), 21);
+    is("open", opened(100, 1440, sizeof book), 0);
+    submissions();
+    readings();
+    is("sound", tetherbay_sound(book, sizeof book), true);
+    put(book + 6, 1, 1);
+    tetherbay_seal(book, BLOCK);
+    is("sound, a byte that must be 0", tetherbay_sound(book, sizeof book), false);
+    is("plain run, 1", tetherbay_plain_run(book, sizeof book).number, 1);
+    is("plain run, 1, holds", tetherbay_plain_run(book, sizeof book).holds, false);
+    printf("%u answers asked for, %u wrong\n", asked, wrong);
+    return wrong != 0;
+}

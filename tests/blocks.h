@@ -1,0 +1,62 @@
+/* Blocks of messages for the C tests and the measurements. */
+#ifndef BLOCKS_H
+#define BLOCKS_H
+
+#include "../include/tetherbay.h"
+#include <stdio.h>
+#include <string.h>
+
+enum { BLOCK = 512, MOST_BLOCKS = 1001, MOST_SERIES = 200 };
+
+static inline void put(uint8_t *at, size_t width, uint32_t x) {
+    for (size_t i = 0; i < width; i++) at[i] = (uint8_t)(x >> (8 * i));
+}
+
+static inline uint32_t number(const uint8_t *at, size_t width) {
+    uint32_t x = 0;
+    while (width--) x = x << 8 | at[width];
+    return x;
+}
+
+/* The first valid EIC with this number in its middle; it stands until the next call. */
+static inline const uint8_t *eic(unsigned party) {
+    static char code[17];
+    static const char digits[] = "0123456789ABCDEFGHIJKLMNOPQRSTUVWXYZ";
+    for (unsigned tail = 0;; tail++) {
+        snprintf(code, sizeof code, "14XPARTY-%04u-%c", party % 10000, digits[tail]);
+        for (size_t last = 0; last < 36; last++) {
+            code[15] = digits[last];
+            if (tetherbay_eic_valid((const uint8_t *)code, 16)) return (const uint8_t *)code;
+        }
+    }
+}
+
+/* The sender block of a party's message for the day of this day block, its check not yet put right. */
+static inline void sender_block(uint8_t *b, const uint8_t *day, unsigned party, unsigned version, unsigned series) {
+    memset(b, 0, BLOCK);
+    b[0] = 1;
+    b[1] = day[1];
+    put(b + 2, 2, version);
+    put(b + 4, 2, series);
+    snprintf((char *)b + 8, 16, "MESSAGE-%04u", party % 10000);
+    memcpy(b + 24, eic(party), 16);
+    memcpy(b + 40, day + 40, 16);
+    memcpy(b + 56, day + 8, 8);
+}
+
+/* Series k of a message: buyer and seller, and at each position of the day a value one above that of the position before it. */
+static inline void series_block(uint8_t *x, const uint8_t *day, unsigned k, unsigned version, unsigned buyer, unsigned seller, uint32_t base) {
+    memset(x, 0, BLOCK);
+    x[0] = 2;
+    x[1] = day[1];
+    put(x + 2, 2, version);
+    x[4] = 2;
+    snprintf((char *)x + 8, 16, "SERIES-%04u", k % 10000);
+    memcpy(x + 24, day + 24, 16);
+    memcpy(x + 40, day + 24, 16);
+    memcpy(x + 56, eic(buyer), 16);
+    memcpy(x + 72, eic(seller), 16);
+    for (unsigned p = 0; p < day[1]; p++) put(x + 108 + 4 * p, 4, base + p);
+}
+
+#endif
