@@ -17,6 +17,7 @@ use crate::names;
 use crate::random::Random;
 use crate::sound::{is_sound, SoundClause, FEWEST_BLOCKS, MOST_BLOCKS};
 use crate::stream::{records_between, Record};
+use crate::submission::submit;
 
 /// How large the books of an episode are.
 #[derive(Clone, Copy, PartialEq, Eq)]
@@ -392,8 +393,18 @@ impl Generator {
         let new = if free <= 200 { New::Filling(0) } else { New::Exactly(random.between(190, 200)) };
         let growth = Growth { new, changed: 0, one_sided: random.percent(40) };
         let draft = Draft::lawful(random, book, sender, &self.partners, &growth);
-        self.queue.push_back(Record::Submit(draft.finished(random, &[])));
+        let message = draft.finished(random, &[]);
+        let accepted = is_accepted(book, &message);
+        self.queue.push_back(Record::Submit(message));
+        self.show_after(accepted);
+    }
+
+    /// The sum after a submission, and every byte of the book after one that is accepted.
+    fn show_after(&mut self, accepted: bool) {
         self.queue.push_back(Record::Sum);
+        if accepted {
+            self.queue.push_back(Record::Book);
+        }
     }
 
     fn submission(&mut self, book: &[u8]) {
@@ -406,8 +417,9 @@ impl Generator {
             }
             _ => {}
         }
+        let accepted = is_accepted(book, &message);
         self.queue.push_back(Record::Submit(message));
-        self.queue.push_back(Record::Sum);
+        self.show_after(accepted);
     }
 
     fn reader(&mut self, book: &[u8]) {
@@ -703,6 +715,11 @@ fn quantity_text(random: &mut Random) -> Vec<u8> {
         }
     }
     text
+}
+
+/// Whether the book as it stands takes the message.
+fn is_accepted(book: &[u8], message: &[u8]) -> bool {
+    submit(&mut book.to_vec(), message).number() == 0
 }
 
 #[cfg(test)]

@@ -1,2 +1,3 @@
--- Blocks linked by a field, and what a search along the links finds.
+-- Numbers made of fields; blocks linked by them, and what a search along the links finds.
+pub mod Tags
 pub mod Linked

@@ -3,18 +3,18 @@ pub mod Laws
 use mathlib.Core.Path.{_≡_}
 use mathlib.Core.Bool.{Bool, true, cond}
 use mathlib.Core.List.{List, []}
-use Prim.Native.Nat.{ℕ, _+_, _≤_, _<_, _%_}
+use Prim.Native.Nat.{ℕ, _+_, _≤_, _<_, _/_}
 use lib.ListN.{length, drop, getD}
 use Rattle.laws.specs.Tests.{_and_, is}
 use Rattle.laws.specs.Lists.{same, place}
 use Rattle.laws.specs.Loops.{placeFrom}
-use Rattle.paper.specs.Check.{checkFrom}
 use Rattle.paper.specs.Layout.{Bytes, Block, idOf, pair}
 use Rattle.paper.specs.Book.{isSeries, isSeriesOf}
+use Rattle.index.specs.Tags.{pairTagOf}
 
--- one of 1,024: blocks with the same bytes share it, and few others
+-- one of 1,024, by the upper bits of the tag: blocks with the same bytes share it, and few others
 unfoldable pub bucket : Bytes → ℕ
-bucket v = checkFrom 0 v % 1024
+bucket v = pairTagOf v / 4194304
 
 -- what a series is sought by: its id, or its pair of parties
 unfoldable pub keyOf : Bool → Block → Bytes

@@ -8,7 +8,6 @@ ghost use Rattle.laws.specs.Lists.{place};
 ghost use Rattle.laws.specs.Cut.{cut};
 ghost use Rattle.paper.specs.Layout.{zeros};
 ghost use Rattle.index.specs.Linked.{bucket, keyOf, ownIn, seriesIn, Links, ownWith, Found};
-use block::check::check_bytes;
 use field::same;
 use layout::id_of;
 use layout::pair;
@@ -16,6 +15,10 @@ use paper::Slot;
 use slots::block_at;
 use slots::is_series;
 use slots::is_series_of;
+
+pub mod tags;
+
+use tags::pair_tag_of;
 
 // No bucket has a first block.
 pub fn no_heads() -> [u16; 1024]
@@ -35,7 +38,7 @@ pub fn no_nexts() -> [u16; 1000]
 pub fn bucket(v: &[u8]) -> usize
     ensures { λ r. ⌜ (r ≡ bucket (now (v .entry))) × (r < 1024) ⌝ }
 {
-    (check_bytes(v) % 1024) as usize
+    (pair_tag_of(v) / 4194304) as usize
 }
 
 // Its id, or its pair of parties.

@@ -2,14 +2,14 @@
 use mathlib.Core.Path.{_≡_}
 use mathlib.Core.Bool.{Bool, cond}
 use mathlib.Core.List.{List, []}
-use Prim.Native.Nat.{ℕ, _+_, _*_, _%_, _≤_, _<_}
+use Prim.Native.Nat.{ℕ, _+_, _≤_, _<_}
 use lib.ListN.{length, drop, getD}
-use Rattle.laws.specs.Tests.{is, less}
+use Rattle.laws.specs.Tests.{is}
 use Rattle.laws.specs.Lists.{All}
-use Rattle.laws.specs.Bytes.{part, number}
 use Rattle.laws.specs.Loops.{placeFrom}
-use Rattle.paper.specs.Layout.{Bytes, Block, idOf, sender, sendersSlot, pair}
+use Rattle.paper.specs.Layout.{Block, idOf, sender, sendersSlot, pair}
 use Rattle.paper.specs.Book.{isSeries}
+use Rattle.index.specs.Tags.{tagOf, pairTagOf}
 
 -- the series of a sender are the group of its slot; the senders are group 0
 unfoldable pub group : Block → ℕ
@@ -33,16 +33,6 @@ unfoldable pub Nexts : List Block → ℕ → List ℕ → Type 0
 Nexts us i nexts = (j : ℕ) → i ≤ j → j < length us → getD nexts j 0 ≡ placeFrom (j + 1) (inGroup (group (getD us j []))) (drop (j + 1) us)
 
 -- ---- numbers that differ where the ids, the pairs or the senders' EICs do, but for a chance
-
-unfoldable pub mixed : ℕ → ℕ → ℕ
-mixed t w = (1000003 * t + w) % 4294967296
-
--- of a field of sixteen bytes
-unfoldable pub tagOf : Bytes → ℕ
-tagOf s = cond (less (length s) 16) 0 (mixed (mixed (mixed (number 4 0 s) (number 4 4 s)) (number 4 8 s)) (number 4 12 s))
-
-unfoldable pub pairTagOf : Bytes → ℕ
-pairTagOf p = mixed (tagOf (part 0 16 p)) (tagOf (part 16 16 p))
 
 unfoldable pub idTag : Block → ℕ
 idTag b = tagOf (cond (isSeries b) (idOf b) (sender b))

@@ -7,9 +7,9 @@ ghost use Prim.Native.Nat.{_/_, _≤_, _<_};
 ghost use lib.ListN.{length, getD};
 ghost use Rattle.laws.specs.Cut.{cut};
 ghost use Rattle.paper.specs.Layout.{zeros};
-ghost use Rattle.sound.specs.Links.{group, Grouped, Heads, Nexts, mixed, tagOf, pairTagOf, idTag, pairTag, Tags};
-use block::numbers::number_4;
-use field::part_of;
+ghost use Rattle.sound.specs.Links.{group, Grouped, Heads, Nexts, idTag, pairTag, Tags};
+use index::tags::pair_tag_of;
+use index::tags::tag_of;
 use layout::id_of;
 use layout::pair;
 use layout::sender;
@@ -68,32 +68,6 @@ pub fn link(us: &[u8], heads: &mut [u16; 1001], nexts: &mut [u16; 1000])
         heads[g] = i as u16;
         i -= 1;
     }
-}
-
-// Two numbers in one: the second added to the first times a prime.
-fn mixed(t: u32, w: u32) -> u32
-    ensures { λ r. ⌜ r ≡ mixed t w ⌝ }
-{
-    ((1000003 * (t as u64) + w as u64) % 4294967296) as u32
-}
-
-// Of a field of sixteen bytes: their four numbers are read with no further test.
-fn tag_of(s: &[u8]) -> u32
-    ensures { λ r. ⌜ r ≡ tagOf (now (s .entry)) ⌝ }
-{
-    if s.len() < 16 {
-        return 0;
-    }
-    mixed(
-        mixed(mixed(number_4(s, 0), number_4(s, 4)), number_4(s, 8)),
-        number_4(s, 12),
-    )
-}
-
-fn pair_tag_of(p: &[u8]) -> u32
-    ensures { λ r. ⌜ r ≡ pairTagOf (now (p .entry)) ⌝ }
-{
-    mixed(tag_of(part_of(p, 0, 16)), tag_of(part_of(p, 16, 16)))
 }
 
 fn id_tag(b: &[u8]) -> u32

@@ -17,7 +17,8 @@ use Rattle.paper.specs.Layout.{Bytes, Block, idOf}
 use Rattle.paper.specs.Sound.{sameSender, sameSeries}
 use Rattle.facts.specs.Book.{sender-not-series}
 use Rattle.sound.specs.Used.{clashes}
-use Rattle.sound.specs.Links.{tagOf, pairTagOf, idTag, pairTag, Tags}
+use Rattle.index.specs.Tags.{tagOf, pairTagOf}
+use Rattle.sound.specs.Links.{idTag, pairTag, Tags}
 
 pub tags-none : (s : Bytes) (u v : List ℕ) → Tags (cut 512 s) 0 u v
 unfolding Tags

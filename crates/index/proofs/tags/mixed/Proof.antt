@@ -1,8 +1,8 @@
 -- The sum fits into eight bytes and its remainder into four.
 use Rattle.laws.specs.Kit.{needs, arith}
-use Rattle.sound.specs.Links.{mixed}
-use Rattle.sound.proofs.links.mixed.Statement.{statement}
-use Rattle.sound.proofs.links.mixed.Tie as tie
+use Rattle.index.specs.Tags.{mixed}
+use Rattle.index.proofs.tags.mixed.Statement.{statement}
+use Rattle.index.proofs.tags.mixed.Tie as tie
 
 returns : tie.Need-returns
 unfolding mixed

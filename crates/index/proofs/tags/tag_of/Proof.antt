@@ -1,9 +1,9 @@
 -- The four numbers are those of the definition.
 use Rattle.laws.specs.Kit.{needs}
 use Rattle.laws.specs.Tests.Laws.{less-true, less-false}
-use Rattle.sound.specs.Links.{tagOf}
-use Rattle.sound.proofs.links.tag_of.Statement.{statement}
-use Rattle.sound.proofs.links.tag_of.Tie as tie
+use Rattle.index.specs.Tags.{tagOf}
+use Rattle.index.proofs.tags.tag_of.Statement.{statement}
+use Rattle.index.proofs.tags.tag_of.Tie as tie
 
 returns : tie.Need-returns
 unfolding tagOf

@@ -1,8 +1,8 @@
 -- The two parties' tags, mixed as the definition has it.
 use Rattle.laws.specs.Kit.{needs}
-use Rattle.sound.specs.Links.{pairTagOf}
-use Rattle.sound.proofs.links.pair_tag_of.Statement.{statement}
-use Rattle.sound.proofs.links.pair_tag_of.Tie as tie
+use Rattle.index.specs.Tags.{pairTagOf}
+use Rattle.index.proofs.tags.pair_tag_of.Statement.{statement}
+use Rattle.index.proofs.tags.pair_tag_of.Tie as tie
 
 returns : tie.Need-returns
 unfolding pairTagOf

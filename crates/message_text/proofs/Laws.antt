@@ -1,0 +1,4 @@
+-- What the proofs of the text form rest on.
+pub mod Words
+pub mod Fields
+pub mod Lines

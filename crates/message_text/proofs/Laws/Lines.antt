@@ -1,0 +1,102 @@
+-- A block of the message lent and back, a series begun, and the lines of a text one after the other.
+use mathlib.Core.Path.{_≡_, refl, sym, ap, _∙_}
+use mathlib.Core.Bool.{Bool, true, false}
+use mathlib.Core.List.{List, [], _∷_, _++_, append-assoc}
+use Prim.Native.Nat.{ℕ, _+_, _-_, _*_, _≤_, _<_}
+use native.Mathlib.Nat.{add-sub-cancel-left}
+use native.Mathlib.Omega.{arith}
+use lib.ListN.{length, take, drop}
+use lib.Seq.{drop-drop, length-take-le}
+use Rattle.laws.specs.Tests.{_and_, less, upto}
+use Rattle.laws.specs.Tests.Laws.{and-both, and-no-left, and-no-right, less-true, less-false, upto-true, upto-false}
+use Rattle.laws.specs.Bytes.{part, written, little}
+use Rattle.laws.specs.Bytes.Laws.{written-take-drop, written-length}
+use Rattle.laws.specs.Slices.{part-slice}
+use Rattle.paper.specs.Check.{sealed}
+use Rattle.paper.specs.Layout.{Bytes, Block, nOf, version}
+use Rattle.message_text.specs.declared.Laid.{Laid}
+use Rattle.message_text.specs.declared.TextRead.{TextRead}
+use Rattle.message_text.specs.Words.{before, behind, lines}
+use Rattle.message_text.specs.MessageText.{Gives, padded, inBlock, laid, fieldLaid, newSeries, counted, begun, withLine, started, wrongAt, withLines}
+use Rattle.message_text.proofs.Laws.Words.{lines-none, lines-more}
+use Rattle.message_text.proofs.Laws.Fields.{padded-length}
+
+-- ---- a block lent and back
+
+pub block-back : (o : ℕ) (b y : Bytes) → o + 512 ≤ length b → length y ≡ 512 → take o b ++ (y ++ drop (o + 512 - o) (drop o b)) ≡ written o y b
+block-back o b y h e =
+    let d : drop (o + 512 - o) (drop o b) ≡ drop (o + length y) b = rw (add-sub-cancel-left, e) (drop-drop 512 o b) in
+    ap (λ l. take o b ++ (y ++ l)) d ∙ sym (append-assoc (take o b) y (drop (o + length y) b)) ∙ sym (written-take-drop o y b (omega arith))
+
+front-back : (b y : Bytes) → 512 ≤ length b → length y ≡ 512 → y ++ drop 512 b ≡ written 0 y b
+front-back b y h e =
+    let n : 0 + length y ≡ 512 = omega arith in
+    sym (written-take-drop 0 y b (omega arith) ∙ ap (λ k. y ++ drop k b) n)
+
+pub field-back : (series : ℕ) (w v b : Bytes) {fine : Bool} {y : Block} → 512 * (series + 1) ≤ length b → length y ≡ 512
+    → (let x = take (512 * series + 512 - 512 * series) (drop (512 * series) b) in (fine ≡ (inBlock series w v x) .0) × (y ≡ sealed ((inBlock series w v x) .1)))
+    → Gives (fieldLaid series w v b) (laid fine series) (take (512 * series) b ++ (y ++ drop (512 * series + 512 - 512 * series) (drop (512 * series) b)))
+unfolding fieldLaid
+field-back series w v b {fine} {y} h e f =
+    let g = rw (part-slice (512 * series) (512 * series + 512) 512 b refl) at f in
+    (ap (λ t. laid t series) (g .0), block-back (512 * series) b y (omega arith) e ∙ ap (λ z. written (512 * series) z b) (g .1))
+
+sealed-length : (x : Block) → length (sealed x) ≡ length x
+unfolding sealed
+sealed-length x = written-length 508 _ x
+
+pub started-back : (b y : Bytes) → 512 ≤ length b → y ≡ sealed (padded 512 (1 ∷ [])) → y ++ drop 512 b ≡ started b
+unfolding started
+started-back b y h e = front-back b y h (ap length e ∙ sealed-length (padded 512 (1 ∷ [])) ∙ padded-length 512 (1 ∷ [])) ∙ ap (λ z. written 0 z b) e
+
+-- ---- a series begun
+
+module _ (series : ℕ) (id b : Bytes) where
+  pub begun-many : 200 ≤ series → Gives (begun series id b) (laid false series) b
+  unfolding begun
+  begun-many h = let z : (less series 200 and upto (512 * (series + 2)) (length b)) ≡ false = and-no-left _ _ (less-false _ _ h) in (rw z, rw z)
+
+  pub begun-short : length b < 512 * (series + 1) + 512 → Gives (begun series id b) (laid false series) b
+  unfolding begun
+  begun-short h =
+      let l : length b < 512 * (series + 2) = omega arith in
+      let z : (less series 200 and upto (512 * (series + 2)) (length b)) ≡ false = and-no-right _ _ (upto-false _ _ l) in
+      (rw z, rw z)
+
+  pub begun-fits : series < 200 → 512 * (series + 1) + 512 ≤ length b → {n v : ℕ} {h y : Block} → n ≡ nOf b → v ≡ version b
+      → h ≡ sealed (written 4 (little 2 (series + 1)) (take 512 b))
+      → length y ≡ 512 → y ≡ newSeries n v id
+      → (let c = h ++ drop 512 b in Gives (begun series id b) (laid (upto (length id) 16) (series + 1)) (take (512 * (series + 1)) c ++ (y ++ drop (512 * (series + 1) + 512 - 512 * (series + 1)) (drop (512 * (series + 1)) c))))
+  unfolding begun counted part
+  begun-fits s l {h = h} {y = y} en ev qh ey qy =
+      let eh : length h ≡ 512 = ap length qh ∙ sealed-length _ ∙ written-length 4 _ (take 512 b) ∙ length-take-le 512 b (omega arith) in
+      let z : (less series 200 and upto (512 * (series + 2)) (length b)) ≡ true = and-both _ _ (less-true _ _ s) (upto-true _ _ (omega arith)) in
+      let p : h ++ drop 512 b ≡ written 0 h b = front-back b h (omega arith) eh in
+      let k : 512 * (series + 1) + 512 ≤ length (written 0 h b) = rw (written-length 0 h b) l in
+      (rw z, rw (z, p, ← en, ← ev, ← qh, ← qy) (block-back (512 * (series + 1)) (written 0 h b) y k ey))
+
+-- ---- the lines
+
+module _ (k : ℕ) (m : Laid × Bytes) where
+  pub lines-wrong : (ls : List Bytes) → m .0 .fine ≡ false → withLines k m ls ≡ (wrongAt k, m .1)
+  unfolding withLines
+  lines-wrong [] e = rw e
+  lines-wrong (l ∷ ls) e = rw e
+
+-- t is what is left of the text, b the message so far, r what all lines give
+module _ (k series : ℕ) (t b : Bytes) {r : TextRead × Bytes} (e : withLines k (laid true series, b) (lines t) ≡ r) where
+  -- the next line gives x and c
+  module _ {l : Bytes} {x : Laid} {c : Bytes} (h : 0 < length t) (f : l ≡ before 10 t) (q : Gives (withLine series l b) x c) where
+    next : withLines (k + 1) (x, c) (lines (behind 10 t)) ≡ r
+    unfolding withLines
+    next = rw (q .0, q .1, f) (rw (lines-more t h) at e)
+
+    pub lines-on : {u : Bytes} → x .fine ≡ true → u ≡ behind 10 t → withLines (k + 1) (laid true (x .series), c) (lines u) ≡ r
+    lines-on {u} n g = rw (g, ← n) next
+
+    pub lines-stop : x .fine ≡ false → Gives r (wrongAt (k + 1)) c
+    lines-stop n = let p = sym (lines-wrong (k + 1) (x, c) (lines (behind 10 t)) n) ∙ next in (ap (λ a. a .0) p, ap (λ a. a .1) p)
+
+  pub lines-end : length t ≤ 0 → Gives r (record { line = 0; length = 512 * (series + 1) }) b
+  unfolding withLines
+  lines-end h = let p = rw (lines-none t h) at e in (ap (λ a. a .0) p, ap (λ a. a .1) p)

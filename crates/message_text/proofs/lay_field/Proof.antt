@@ -1,0 +1,15 @@
+-- The last block is lent and back; before and behind it the message stays.
+use Rattle.laws.specs.Kit.{needs, arith}
+use denote.Ref.{now}
+use Rattle.message_text.proofs.Laws.Lines.{field-back}
+use Rattle.message_text.proofs.lay_field.Statement.{statement}
+use Rattle.message_text.proofs.lay_field.Tie as tie
+
+returns : tie.Need-returns
+returns c =
+    let f = c .before .before in
+    let s = f .before .before .before .before .before in
+    (field-back (s .args .series) _ _ (now (s .args .buffer)) (s .pre) (omega arith) (f .fill-block .ensures), search needs)
+
+pub lay-field-spec : {M : Type 1} → statement M
+lay-field-spec = tie.close (tie.spec (search needs) (search needs) (search needs) (search needs) (search needs) (search needs) (search needs) returns)

@@ -1,0 +1,132 @@
+-- The text form of a message: what each line makes of the message's blocks. A line that is wrong ends the reading; what it wrote stays.
+use mathlib.Core.Path.{_≡_}
+use mathlib.Core.Bool.{Bool, true, false, cond}
+use mathlib.Core.List.{List, [], _∷_, _++_}
+use Prim.Native.Nat.{ℕ, zero, suc, _+_, _-_, _*_}
+use lib.ListN.{length, drop, getD}
+use Rattle.laws.specs.Tests.{_and_, is, less, upto}
+use Rattle.laws.specs.Lists.{same}
+use Rattle.laws.specs.Bytes.{part, written, little}
+use Rattle.paper.specs.Check.{sealed}
+use Rattle.paper.specs.Layout.{Bytes, Block, nOf, version}
+use Rattle.paper.specs.QuantityText.{quantityRead}
+use Rattle.paper.specs.Listing.{text}
+use Rattle.message_text.specs.declared.Place.{Place}
+use Rattle.message_text.specs.declared.Laid.{Laid}
+use Rattle.message_text.specs.declared.TextRead.{TextRead}
+use Rattle.message_text.specs.Words.{lines, word, value, skipped, numberOf, firstOf, lastOf}
+
+-- a function gives p: its answer is r, and the bytes that were lent to it are x
+abbrev pub Gives : {A : Type 0} → A × Bytes → A → Bytes → Type 0
+Gives p r x = (r ≡ p .0) × (x ≡ p .1)
+
+-- ---- a field: whether the value is fine, and the block with it
+
+-- a field of m bytes: v, then zero bytes
+unfoldable pub padded : ℕ → Bytes → Bytes
+padded zero v = []
+padded (suc m) v = getD v 0 0 ∷ padded m (drop 1 v)
+
+-- a text's place in a block, and how long it is at most: 0 where a word names no text
+abbrev pub place : ℕ → ℕ → Place
+place at most = record { at = at; most = most }
+
+unfoldable pub withText : Place → Bytes → Block → Bool × Block
+withText p v x = (less 0 (p .most) and upto (length v) (p .most), written (p .at) (padded (p .most) v) x)
+
+unfoldable pub withVersion : Bytes → Block → Bool × Block
+withVersion v x = (less (numberOf v) 10000, written 2 (little 2 (numberOf v)) x)
+
+unfoldable pub withN : Bytes → Block → Bool × Block
+withN v x = (less (numberOf v) 256, written 1 (little 1 (numberOf v)) x)
+
+-- in area and out area
+unfoldable pub withArea : Bytes → Block → Bool × Block
+withArea v x = withText (place 40 16) v ((withText (place 24 16) v x) .1)
+
+-- a quantity at m positions, before which there are k
+unfoldable pub spread : (m k kilowatts : ℕ) → Block → Block
+spread zero k q x = x
+spread (suc m) k q x = spread m (k + 1) q (written (108 + 4 * k) (little 4 q) x)
+
+-- positions as a word names them, and a quantity text
+unfoldable pub withPositions : Bytes → Bytes → Block → Bool × Block
+withPositions w v x =
+    cond (less 0 (firstOf w) and upto (firstOf w) (lastOf w) and upto (lastOf w) 100 and is ((quantityRead v) .number) 0)
+    (true, spread (lastOf w - (firstOf w - 1)) (firstOf w - 1) ((quantityRead v) .kilowatts) x)
+    (false, x)
+
+-- ---- a line in the sender's block, and in a series' block
+
+unfoldable pub senderPlace : Bytes → Place
+senderPlace w =
+    cond (same w (text "message")) (place 8 16)
+    (cond (same w (text "sender")) (place 24 16)
+    (cond (same w (text "receiver")) (place 40 16)
+    (cond (same w (text "day")) (place 56 8) (place 0 0))))
+
+unfoldable pub seriesPlace : Bytes → Place
+seriesPlace w = cond (same w (text "in")) (place 56 16) (cond (same w (text "out")) (place 72 16) (place 0 0))
+
+unfoldable pub inSender : Bytes → Bytes → Block → Bool × Block
+inSender w v x = cond (same w (text "version")) (withVersion v x) (cond (same w (text "n")) (withN v x) (withText (senderPlace w) v x))
+
+-- a word that names no field names positions, or is wrong
+unfoldable pub inSeries : Bytes → Bytes → Block → Bool × Block
+inSeries w v x =
+    cond (same w (text "version")) (withVersion v x)
+    (cond (same w (text "area")) (withArea v x)
+    (cond (is ((seriesPlace w) .most) 0) (withPositions w v x) (withText (seriesPlace w) v x)))
+
+unfoldable pub inBlock : ℕ → Bytes → Bytes → Block → Bool × Block
+inBlock series w v x = cond (is series 0) (inSender w v x) (inSeries w v x)
+
+-- ---- a line in a message that has some series so far
+
+abbrev pub laid : Bool → ℕ → Laid
+laid fine series = record { fine = fine; series = series }
+
+-- into the last block, with its check put right
+unfoldable pub fieldLaid : ℕ → Bytes → Bytes → Bytes → Laid × Bytes
+fieldLaid series w v b = (
+  laid ((inBlock series w v (part (512 * series) 512 b)) .0) series,
+  written (512 * series) (sealed ((inBlock series w v (part (512 * series) 512 b)) .1)) b,
+)
+
+-- a series begins: kind 2, the sender block's n and version, business type 2, its id
+unfoldable pub newSeries : (n version : ℕ) (id : Bytes) → Block
+newSeries n version id = sealed (written 8 (padded 16 id) (padded 512 (2 ∷ n ∷ little 2 version ++ 2 ∷ [])))
+
+-- the sender's block counts it
+unfoldable pub counted : ℕ → Bytes → Bytes
+counted series b = written 0 (sealed (written 4 (little 2 series) (part 0 512 b))) b
+
+-- at most 200 series, and room for one more
+unfoldable pub begun : ℕ → Bytes → Bytes → Laid × Bytes
+begun series id b =
+    cond (less series 200 and upto (512 * (series + 2)) (length b))
+    (laid (upto (length id) 16) (series + 1), written (512 * (series + 1)) (newSeries (nOf b) (version b) id) (counted (series + 1) b))
+    (laid false series, b)
+
+unfoldable pub withLine : ℕ → Bytes → Bytes → Laid × Bytes
+withLine series l b =
+    cond (skipped l) (laid true series, b)
+    (cond (same (word l) (text "series")) (begun series (value l) b) (fieldLaid series (word l) (value l) b))
+
+-- ---- the whole text
+
+-- kind 1
+unfoldable pub started : Bytes → Bytes
+started b = written 0 (sealed (padded 512 (1 ∷ []))) b
+
+abbrev pub wrongAt : ℕ → TextRead
+wrongAt line = record { line = line; length = 0 }
+
+-- the lines behind the first k, of which the last gave m
+unfoldable pub withLines : ℕ → Laid × Bytes → List Bytes → TextRead × Bytes
+withLines k m [] = cond (m .0 .fine) (record { line = 0; length = 512 * (m .0 .series + 1) }, m .1) (wrongAt k, m .1)
+withLines k m (l ∷ ls) = cond (m .0 .fine) (withLines (k + 1) (withLine (m .0 .series) l (m .1)) ls) (wrongAt k, m .1)
+
+-- the answer, and the buffer after it: the message's blocks, then what stood there before
+unfoldable pub messageText : Bytes → Bytes → TextRead × Bytes
+messageText t b = cond (less (length b) 512) (wrongAt 1, b) (withLines 0 (laid true 0, started b) (lines t))

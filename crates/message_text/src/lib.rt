@@ -1,0 +1,169 @@
+// A text form of a message, a line for each field, so that a person can write one.
+ghost use mathlib.Core.Path.{_≡_};
+ghost use Prim.Native.Nat.{_+_, _*_, _≤_};
+ghost use mathlib.Core.Bool.{true};
+ghost use mathlib.Core.List.{[], _∷_};
+ghost use lib.ListN.{length};
+ghost use Rattle.laws.specs.Bytes.{written, little};
+ghost use Rattle.paper.specs.Check.{sealed};
+ghost use Rattle.message_text.specs.MessageText.{Gives, fieldLaid, newSeries, begun, withLine, messageText};
+ghost use Rattle.message_text.specs.MessageText.{inBlock, laid, padded, withLines};
+ghost use Rattle.message_text.specs.Words.{lines};
+use block::check::seal;
+use block::numbers::write_2;
+use field::same;
+use fill::in_block;
+use fill::put_padded;
+use layout::n_of;
+use layout::version;
+use words::line_at;
+use words::next_line;
+use words::skipped;
+use words::value;
+use words::word;
+
+pub mod fill;
+pub mod words;
+
+// Where a text stands in a block, and how long it is at most: 0 where a word names no text.
+pub struct Place {
+    pub at: usize,
+    pub most: usize,
+}
+
+// What became of a line: whether it was fine, and how many series there are now.
+pub struct Laid {
+    pub fine: bool,
+    pub series: usize,
+}
+
+// The first wrong line, counted from 1, and 0; or 0, and how many bytes the message has.
+#[repr(C)]
+pub struct TextRead {
+    pub line: usize,
+    pub length: usize,
+}
+
+// The check is put right with each line, so that the message is whole after every one of them.
+fn fill_block(x: &mut [u8], series: usize, w: &[u8], v: &[u8]) -> bool
+    requires { ⌜ length (now x) ≡ 512 ⌝ }
+    ensures { λ r. ⌜ (r ≡ (inBlock series (now (w .entry)) (now (v .entry)) (now (x .entry))) .0) × (now (x .exit) ≡ sealed ((inBlock series (now (w .entry)) (now (v .entry)) (now (x .entry))) .1)) ⌝ }
+{
+    let fine = in_block(x, series, w, v);
+    seal(x);
+    fine
+}
+
+fn lay_field(buffer: &mut [u8], series: usize, w: &[u8], v: &[u8]) -> Laid
+    requires { ⌜ 512 * (series + 1) ≤ length (now buffer) ⌝ }
+    ensures { λ r. ⌜ (Gives (fieldLaid series (now (w .entry)) (now (v .entry)) (now (buffer .entry))) r (now (buffer .exit))) × (512 * (r .series + 1) ≤ length (now (buffer .entry))) ⌝ }
+{
+    let start = 512 * series;
+    let fine = fill_block(&mut buffer[start..start + 512], series, w, v);
+    Laid { fine, series }
+}
+
+// n and version are the sender block's until a line says otherwise.
+fn write_series(block: &mut [u8], n: u8, version: u16, id: &[u8])
+    requires { ⌜ length (now block) ≡ 512 ⌝ }
+    ensures { λ _. ⌜ now (block .exit) ≡ newSeries n version (now (id .entry)) ⌝ }
+{
+    let first = [2, n, (version % 256) as u8, (version / 256 % 256) as u8, 2];
+    put_padded(block, 0, 512, &first);
+    put_padded(block, 8, 16, id);
+    seal(block);
+}
+
+fn count_series(block: &mut [u8], series: usize)
+    ensures { λ _. ⌜ now (block .exit) ≡ sealed (written 4 (little 2 series) (now (block .entry))) ⌝ }
+{
+    write_2(block, 4, (series % 65536) as u16);
+    seal(block);
+}
+
+fn begin_series(buffer: &mut [u8], series: usize, id: &[u8]) -> Laid
+    requires { ⌜ 512 * (series + 1) ≤ length (now buffer) ⌝ }
+    ensures { λ r. ⌜ (Gives (begun series (now (id .entry)) (now (buffer .entry))) r (now (buffer .exit))) × (512 * (r .series + 1) ≤ length (now (buffer .entry))) ⌝ }
+{
+    if 200 <= series {
+        return Laid {
+            fine: false,
+            series,
+        };
+    }
+    let start = 512 * (series + 1);
+    if buffer.len() < start + 512 {
+        return Laid {
+            fine: false,
+            series,
+        };
+    }
+    let n = n_of(buffer);
+    let v = version(buffer);
+    count_series(&mut buffer[..512], series + 1);
+    write_series(&mut buffer[start..start + 512], n, v, id);
+    Laid {
+        fine: id.len() <= 16,
+        series: series + 1,
+    }
+}
+
+fn lay_line(buffer: &mut [u8], series: usize, line: &[u8]) -> Laid
+    requires { ⌜ 512 * (series + 1) ≤ length (now buffer) ⌝ }
+    ensures { λ r. ⌜ (Gives (withLine series (now (line .entry)) (now (buffer .entry))) r (now (buffer .exit))) × (512 * (r .series + 1) ≤ length (now (buffer .entry))) ⌝ }
+{
+    if skipped(line) {
+        return Laid { fine: true, series };
+    }
+    let w = word(line);
+    let v = value(line);
+    if same(w, b"series") {
+        return begin_series(buffer, series, v);
+    }
+    lay_field(buffer, series, w, v)
+}
+
+fn write_start(block: &mut [u8])
+    requires { ⌜ length (now block) ≡ 512 ⌝ }
+    ensures { λ _. ⌜ now (block .exit) ≡ sealed (padded 512 (1 ∷ [])) ⌝ }
+{
+    put_padded(block, 0, 512, &[1]);
+    seal(block);
+}
+
+// The first wrong line ends the reading.
+fn lay_lines(buffer: &mut [u8], text: &[u8]) -> TextRead
+    requires { ⌜ 512 ≤ length (now buffer) ⌝ }
+    ensures { λ r. ⌜ Gives (withLines 0 (laid true 0, now (buffer .entry)) (lines (now (text .entry)))) r (now (buffer .exit)) ⌝ }
+{
+    let mut series = 0;
+    let mut number = 0;
+    let mut at = 0;
+    while at < text.len() {
+        let laid = lay_line(buffer, series, line_at(text, at));
+        number += 1;
+        if !laid.fine {
+            return TextRead {
+                line: number,
+                length: 0,
+            };
+        }
+        series = laid.series;
+        at = next_line(text, at);
+    }
+    TextRead {
+        line: 0,
+        length: 512 * (series + 1),
+    }
+}
+
+// The message's blocks, from a text. A buffer with no room for the sender's block is refused at line 1.
+pub fn message_from_text(text: &[u8], buffer: &mut [u8]) -> TextRead
+    ensures { λ r. ⌜ Gives (messageText (now (text .entry)) (now (buffer .entry))) r (now (buffer .exit)) ⌝ }
+{
+    if buffer.len() < 512 {
+        return TextRead { line: 1, length: 0 };
+    }
+    write_start(&mut buffer[..512]);
+    lay_lines(buffer, text)
+}
