@@ -1,0 +1,13 @@
+-- The answer, then the newline.
+use Rattle.laws.specs.Kit.{needs}
+use Rattle.desk_answers.specs.Answers.{ended, numberLine}
+use Rattle.desk_text.specs.Put.Laws.{then}
+use Rattle.desk_answers.proofs.number_line.Statement.{statement}
+use Rattle.desk_answers.proofs.number_line.Tie as tie
+
+returns : tie.Need-returns
+unfolding numberLine ended
+returns c = then (c .before .before .before .before .before .before .before .put-answer .ensures) (c .before .before .put .ensures)
+
+pub number-line-spec : {M : Type 1} → statement M
+number-line-spec = tie.close (tie.spec (search needs) (search needs) (search needs) (search needs) returns)

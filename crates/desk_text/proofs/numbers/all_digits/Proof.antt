@@ -1,0 +1,31 @@
+-- What is found so far, with the test of the bytes left, is the test of all.
+use Rattle.laws.specs.Kit.{needs, arith, _≡_, _≤_, _-_, length, drop, step-byte, end-list}
+use Rattle.laws.specs.Tests.{_and_}
+use Rattle.laws.specs.Lists.{every}
+use Rattle.laws.specs.Loops.{every-start, every-go, every-end}
+use Rattle.paper.specs.Ids.{digit}
+use Rattle.desk_text.proofs.numbers.all_digits.Statement.{statement}
+use Rattle.desk_text.proofs.numbers.all_digits.Tie as tie
+
+abbrev Inv-loop : tie.InvT-loop
+Inv-loop s ok₀ i₀ ok i = (i ≤ length s) × (every digit s ≡ (ok and every digit (drop i s)))
+
+abbrev μ-loop : tie.MeasureT-loop
+μ-loop s ok₀ i₀ ok i = length s - i
+
+more : tie.Need-loop-again Inv-loop μ-loop
+more c = let turn = c .before .before in (omega arith, every-go digit (turn .before .loop .ok) (turn .before .loop .inv .1) (step-byte _ _ (turn .loop-test .taken)) (c .digit .ensures))
+
+pub all-digits-spec : {M : Type 1} → statement M
+all-digits-spec =
+    tie.close
+    (tie.spec
+    Inv-loop
+    μ-loop
+    (λ c. (omega arith, every-start _ _))
+    (search needs)
+    (search needs)
+    (search needs)
+    (search needs)
+    more
+    (λ c. every-end _ _ (c .before .loop .inv .1) (end-list _ _ (c .loop-test .left))))

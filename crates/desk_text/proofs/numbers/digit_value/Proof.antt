@@ -1,0 +1,15 @@
+-- A digit is 48 to 57, so 48 can be taken off, and less than 10 is left.
+use Rattle.laws.specs.Kit.{needs, arith}
+use Rattle.laws.specs.Tests.Laws.{and-left, and-right, upto-yes}
+use Rattle.paper.specs.Ids.{digit}
+use Rattle.desk_text.proofs.numbers.digit_value.Statement.{statement}
+use Rattle.desk_text.proofs.numbers.digit_value.Tie as tie
+
+pub digit-value-spec : {M : Type 1} → statement M
+unfolding digit
+digit-value-spec =
+    tie.close
+    (tie.spec
+    (λ c. omega (arith, upto-yes _ _ (and-left _ _ (c .pre))))
+    (search needs)
+    (λ c. (search needs, omega (arith, upto-yes _ _ (and-right _ _ (c .pre))))))

@@ -1,0 +1,32 @@
+-- What the desk makes of its arguments.
+use mathlib.Core.Bool.{cond}
+use Prim.Native.Nat.{ℕ, zero, suc, _+_, _*_}
+use lib.ListN.{replicate}
+use Rattle.laws.specs.Lists.{same}
+use Rattle.laws.specs.Bytes.{written}
+use Rattle.paper.specs.Layout.{Bytes}
+use Rattle.desk_text.specs.Put.{within}
+use Rattle.desk_text.specs.Words.{lineNumbered, commands}
+
+-- the first of the commands k, k + 1 and on, as many as are left, that a word names; 0 where it names none
+unfoldable pub commandFrom : ℕ → ℕ → Bytes → ℕ
+commandFrom zero k word = 0
+commandFrom (suc left) k word = cond (same (lineNumbered k commands) word) k (commandFrom left (k + 1) word)
+
+unfoldable pub commandNumber : Bytes → ℕ
+commandNumber word = commandFrom 12 1 word
+
+-- an id in its field of sixteen bytes, zero bytes behind it
+unfoldable pub idField : Bytes → Bytes
+idField id = written 0 id (replicate 16 0)
+
+-- a number too large for its field becomes the field's largest, which no sound day block holds
+unfoldable pub byteValue : ℕ → ℕ
+byteValue x = within x 255
+
+unfoldable pub wordValue : ℕ → ℕ
+wordValue x = within x 65535
+
+-- one block more than a book may have stands for every larger number
+unfoldable pub bookLength : ℕ → ℕ
+bookLength blocks = 512 * within blocks 1002

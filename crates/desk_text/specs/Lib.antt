@@ -1,0 +1,5 @@
+-- What the program desk says and how it reads its arguments.
+pub mod Put
+pub mod Numbers
+pub mod Words
+pub mod Arguments

@@ -1,0 +1,101 @@
+-- The words of each number, after document 01's tables.
+use mathlib.Core.List.{List, [], _∷_, _++_}
+use Prim.Native.Nat.{ℕ, zero, suc, _+_}
+use lib.ListN.{length, drop}
+use Rattle.laws.specs.Tests.{is}
+use Rattle.laws.specs.Lists.{until}
+use Rattle.paper.specs.Layout.{Bytes}
+use Rattle.paper.specs.Listing.{text}
+
+-- ---- lines of a text
+
+-- rows, each ended by a newline
+unfoldable pub lines : List Bytes → Bytes
+lines [] = []
+lines (w ∷ ws) = w ++ 10 ∷ lines ws
+
+-- the first line, without the newline that ends it
+unfoldable pub firstLine : Bytes → Bytes
+firstLine s = until (λ x. is x 10) s
+
+unfoldable pub pastLine : Bytes → Bytes
+pastLine s = drop (length (firstLine s) + 1) s
+
+unfoldable pub pastLines : ℕ → Bytes → Bytes
+pastLines zero s = s
+pastLines (suc k) s = pastLines k (pastLine s)
+
+-- line k, counted from 0; empty past the last
+unfoldable pub lineNumbered : ℕ → Bytes → Bytes
+lineNumbered k s = firstLine (pastLines k s)
+
+-- ---- what a number means
+
+unfoldable pub meanings : Bytes
+meanings =
+    lines
+    (text ""
+    ∷ text "the book is not sound"
+    ∷ text "the message is not 2 to 201 whole blocks with the right kinds, count, checks and zero bytes"
+    ∷ text "the receiver is not the book's"
+    ∷ text "the sender is not a valid EIC"
+    ∷ text "the day or the number of quarter-hours is not the book's"
+    ∷ text "the message id or the message version is wrong"
+    ∷ text "the series id or its pair of parties is malformed, repeated or stored otherwise"
+    ∷ text "the parties are not two different valid EICs with the sender among them"
+    ∷ text "an area is not the book's"
+    ∷ text "the business type is not A02 or a capacity field is not empty"
+    ∷ text "a quantity is negative"
+    ∷ text "a quantity is above 9999.999 MW"
+    ∷ text "a quantity stands behind the day's last quarter-hour"
+    ∷ text "a closed quarter-hour was changed"
+    ∷ text "the series version is wrong"
+    ∷ text "a stored series of the sender is absent"
+    ∷ text "the new blocks outnumber the free slots"
+    ∷ text ""
+    ∷ text ""
+    ∷ text "a book has 2 to 1001 blocks"
+    ∷ text "no day block holds such a parameter"
+    ∷ text "the minute is lower than the kept clock or out of range"
+    ∷ text "this sender has no series of that id"
+    ∷ text "the day has no such position"
+    ∷ text "the position is not closed yet"
+    ∷ text "neither party has a series of this pair"
+    ∷ text ""
+    ∷ text ""
+    ∷ text ""
+    ∷ text "not a quantity of 0 to 9999.999 MW"
+    ∷ text "a negative quantity"
+    ∷ text "the buffer is too short for the text"
+    ∷ [])
+
+unfoldable pub meaning : ℕ → Bytes
+meaning number = lineNumbered number meanings
+
+-- ---- what a state means
+
+unfoldable pub states : Bytes
+states = lines (text "" ∷ text "A28, the other party has no such series" ∷ text "every quarter-hour agrees" ∷ text "A09, the two sides differ" ∷ [])
+
+unfoldable pub stateMeaning : ℕ → Bytes
+stateMeaning state = lineNumbered state states
+
+-- ---- the commands
+
+unfoldable pub commands : Bytes
+commands =
+    lines
+    (text ""
+    ∷ text "open"
+    ∷ text "clock"
+    ∷ text "submit"
+    ∷ text "mark"
+    ∷ text "block"
+    ∷ text "final"
+    ∷ text "plain"
+    ∷ text "list"
+    ∷ text "message"
+    ∷ text "eic"
+    ∷ text "kw"
+    ∷ text "commission"
+    ∷ [])

@@ -1,0 +1,70 @@
+// What the desk makes of its arguments.
+ghost use mathlib.Core.Path.{_≡_};
+ghost use Prim.Native.Nat.{_≤_};
+ghost use Rattle.laws.specs.Lists.{same};
+ghost use Rattle.desk_text.specs.Words.{lineNumbered, commands};
+ghost use Rattle.desk_text.specs.Arguments.{commandNumber, idField, byteValue, wordValue, bookLength};
+use crate::put::put;
+use crate::words::line_numbered;
+use field::same;
+
+fn is_command(word: &[u8], k: usize) -> bool
+    ensures { λ r. ⌜ r ≡ same (lineNumbered k commands) (now (word .entry)) ⌝ }
+{
+    let words =
+        b"\nopen\nclock\nsubmit\nmark\nblock\nfinal\nplain\nlist\nmessage\neic\nkw\ncommission\n";
+    same(line_numbered(words, k), word)
+}
+
+// 0 where the word names no command.
+pub fn command_number(word: &[u8]) -> usize
+    ensures { λ r. ⌜ r ≡ commandNumber (now (word .entry)) ⌝ }
+{
+    let mut k = 1;
+    while k < 13 {
+        if is_command(word, k) {
+            return k;
+        }
+        k += 1;
+    }
+    0
+}
+
+// Zero bytes stand behind an id shorter than sixteen.
+pub fn id_field(id: &[u8]) -> [u8; 16]
+    ensures { λ r. ⌜ r ≡ idField (now (id .entry)) ⌝ }
+{
+    let mut room = [0u8; 16];
+    put(&mut room, 0, id);
+    room
+}
+
+// No sound day block holds 255 as n.
+pub fn byte_value(x: u32) -> u8
+    ensures { λ r. ⌜ r ≡ byteValue x ⌝ }
+{
+    if 255 < x {
+        return 255;
+    }
+    x as u8
+}
+
+// No sound day block holds 65,535 as lead.
+pub fn word_value(x: u32) -> u16
+    ensures { λ r. ⌜ r ≡ wordValue x ⌝ }
+{
+    if 65535 < x {
+        return 65535;
+    }
+    x as u16
+}
+
+// No book has 1,002 blocks.
+pub fn book_length(blocks: u32) -> usize
+    ensures { λ r. ⌜ (r ≡ bookLength blocks) × (r ≤ 513024) ⌝ }
+{
+    if 1002 < blocks {
+        return 513024;
+    }
+    512 * blocks as usize
+}

@@ -1,0 +1,78 @@
+// The lines of a text, and the words that stand in them.
+ghost use mathlib.Core.Path.{_≡_};
+ghost use Prim.Native.Nat.{_≤_};
+ghost use lib.ListN.{length, drop};
+ghost use Rattle.desk_text.specs.Put.{Put};
+ghost use Rattle.desk_text.specs.Words.{firstLine, pastLine, pastLines, lineNumbered, meaning, stateMeaning};
+use crate::put::put;
+
+fn line_length(s: &[u8]) -> usize
+    ensures { λ r. ⌜ (r ≡ length (firstLine (now (s .entry)))) × (r ≤ length (now (s .entry))) ⌝ }
+{
+    let mut i = 0;
+    while i < s.len() {
+        if s[i] == 10 {
+            return i;
+        }
+        i += 1;
+    }
+    i
+}
+
+fn first_line(s: &[u8]) -> &[u8]
+    ensures { λ r. ⌜ now r ≡ firstLine (now (s .entry)) ⌝ }
+{
+    let k = line_length(s);
+    &s[..k]
+}
+
+// The place behind the line that starts at `at`.
+fn past_line(s: &[u8], at: usize) -> usize
+    requires { ⌜ at ≤ length (now s) ⌝ }
+    ensures { λ r. ⌜ (r ≤ length (now (s .entry))) × (drop r (now (s .entry)) ≡ pastLine (drop at (now (s .entry)))) ⌝ }
+{
+    let k = line_length(&s[at..]);
+    if s.len() - at <= k {
+        return s.len();
+    }
+    at + k + 1
+}
+
+fn past_lines(s: &[u8], k: usize) -> usize
+    ensures { λ r. ⌜ (r ≤ length (now (s .entry))) × (drop r (now (s .entry)) ≡ pastLines k (now (s .entry))) ⌝ }
+{
+    let mut at = 0;
+    let mut left = k;
+    while 0 < left {
+        at = past_line(s, at);
+        left -= 1;
+    }
+    at
+}
+
+pub fn line_numbered(s: &[u8], k: usize) -> &[u8]
+    ensures { λ r. ⌜ now r ≡ lineNumbered k (now (s .entry)) ⌝ }
+{
+    let at = past_lines(s, k);
+    first_line(&s[at..])
+}
+
+// Line k has the words of number k.
+pub fn put_meaning(line: &mut [u8], at: usize, number: u32) -> usize
+    requires { ⌜ at ≤ length (now line) ⌝ }
+    ensures { λ r. ⌜ Put at (meaning number) r (now (line .entry)) (now (line .exit)) ⌝ }
+{
+    let words =
+        b"\nthe book is not sound\nthe message is not 2 to 201 whole blocks with the right kinds, count, checks and zero bytes\nthe receiver is not the book's\nthe sender is not a valid EIC\nthe day or the number of quarter-hours is not the book's\nthe message id or the message version is wrong\nthe series id or its pair of parties is malformed, repeated or stored otherwise\nthe parties are not two different valid EICs with the sender among them\nan area is not the book's\nthe business type is not A02 or a capacity field is not empty\na quantity is negative\na quantity is above 9999.999 MW\na quantity stands behind the day's last quarter-hour\na closed quarter-hour was changed\nthe series version is wrong\na stored series of the sender is absent\nthe new blocks outnumber the free slots\n\n\na book has 2 to 1001 blocks\nno day block holds such a parameter\nthe minute is lower than the kept clock or out of range\nthis sender has no series of that id\nthe day has no such position\nthe position is not closed yet\nneither party has a series of this pair\n\n\n\nnot a quantity of 0 to 9999.999 MW\na negative quantity\nthe buffer is too short for the text\n";
+    put(line, at, line_numbered(words, number as usize))
+}
+
+// Line k has the words of state k.
+pub fn put_state_meaning(line: &mut [u8], at: usize, state: usize) -> usize
+    requires { ⌜ at ≤ length (now line) ⌝ }
+    ensures { λ r. ⌜ Put at (stateMeaning state) r (now (line .entry)) (now (line .exit)) ⌝ }
+{
+    let words =
+        b"\nA28, the other party has no such series\nevery quarter-hour agrees\nA09, the two sides differ\n";
+    put(line, at, line_numbered(words, state))
+}
