@@ -1,16 +1,15 @@
 -- What the code of an acceptance relies on: a verdict of 0 gives it.
 use mathlib.Core.Path.{_≡_}
-use mathlib.Core.Bool.{true, false}
+use mathlib.Core.Bool.{true}
 use mathlib.Core.List.{List}
 use Prim.Native.Nat.{ℕ, _/_, _%_, _≤_}
 use lib.ListN.{length}
 use Rattle.laws.specs.Lists.{has, keep, All}
 use Rattle.paper.specs.Layout.{Bytes, Block, nOf, sender, pair}
-use Rattle.paper.specs.Book.{dayBlock, slots, used, isSender, isSeries, slotOf, isSeriesOf, ownSeries}
+use Rattle.paper.specs.Book.{dayBlock, slots, used, isSender, isSeries, isSeriesOf, ownSeries}
 use Rattle.paper.specs.Message.{headOf, seriesOf}
 use Rattle.paper.specs.Rules.{pairIs}
 use Rattle.paper.specs.Acceptance.{slotFor, placed}
-use Rattle.index.specs.Linked.{Found}
 
 -- us are the used ones of `many` slots, h a message's first block, series its series
 pub record Placing (n many : ℕ) (us : List Block) (h : Block) (series : List Block) : Type 0 where
@@ -32,11 +31,3 @@ pub record Fits (book message : Bytes) : Type 0 where
   pub whole : length book % 512 ≡ 0
   pub least : 1 ≤ length book / 512
   pub placing : Placing (nOf (dayBlock book)) (length (slots book)) (used book) (headOf message) (seriesOf message)
-
--- what the judgement has found: how many slots are used, the sender's slot, of each series of the message its place among the sender's stored
--- ones, and of each used block the number of the message's series with its pair; 0 where there is none
-pub record Handed (us : List Block) (h : Block) (series : List Block) (many known : ℕ) (places numbers : List ℕ) : Type 0 where
-  pub used-many : many ≡ length us
-  pub senders-slot : known ≡ slotOf us (sender h)
-  pub stored : Found known false us series places
-  pub sent : Found 0 false series us numbers

@@ -1,11 +1,16 @@
-// A line for each case.
+// A line for each case. What is promised is the answer on which the desk's fitness is decided; no contract can speak of what is written.
+ghost use mathlib.Core.Path.{_≡_};
+ghost use Rattle.laws.specs.Tests.{is};
+ghost use Rattle.laws.specs.Lists.{same};
 use libc::STDOUT_FILENO;
 
 pub fn say(text: &[u8]) {
     io::write_all(STDOUT_FILENO, text);
 }
 
-fn verdict(right: bool) -> bool {
+fn verdict(right: bool) -> bool
+    ensures { λ r. ⌜ r ≡ right ⌝ }
+{
     if right {
         say(b": right\n");
     } else {
@@ -15,7 +20,9 @@ fn verdict(right: bool) -> bool {
 }
 
 // A case whose answer is a number.
-pub fn number(what: &[u8], expected: u32, came: u32) -> bool {
+pub fn number(what: &[u8], expected: u32, came: u32) -> bool
+    ensures { λ r. ⌜ r ≡ is expected came ⌝ }
+{
     say(what);
     say(b": expected ");
     io::print_decimal(STDOUT_FILENO, expected as u64);
@@ -25,7 +32,9 @@ pub fn number(what: &[u8], expected: u32, came: u32) -> bool {
 }
 
 // A case whose answer is a text of one line.
-pub fn text(what: &[u8], expected: &[u8], came: &[u8]) -> bool {
+pub fn text(what: &[u8], expected: &[u8], came: &[u8]) -> bool
+    ensures { λ r. ⌜ r ≡ same (now (expected .entry)) (now (came .entry)) ⌝ }
+{
     say(what);
     say(b": expected ");
     say(expected);
@@ -35,7 +44,9 @@ pub fn text(what: &[u8], expected: &[u8], came: &[u8]) -> bool {
 }
 
 // A case whose answer is a text of several lines, which is shown where it is wrong.
-pub fn page(what: &[u8], expected: &[u8], came: &[u8]) -> bool {
+pub fn page(what: &[u8], expected: &[u8], came: &[u8]) -> bool
+    ensures { λ r. ⌜ r ≡ same (now (expected .entry)) (now (came .entry)) ⌝ }
+{
     if field::same(expected, came) {
         say(what);
         return verdict(true);

@@ -16,16 +16,11 @@ use Rattle.paper.specs.Ids.{idWellFormed}
 use Rattle.paper.specs.Book.{isSender, numbered, isSenderBlockOf, slotOf, isSeriesOf, ownSender, ownSeries}
 use Rattle.paper.specs.Rules.{_then_, broken, rule3, rule4, rule5, versionBroken, rule6, isNew, newBlocks, rule16, rule17, eachSeries, judge}
 use Rattle.index.specs.Linked.{Found}
-use Rattle.judge.specs.Looked.{Taken, Handed}
+use Rattle.judge.specs.Looked.{Taken, FoundIf}
 use Rattle.judge.proofs.Laws.{then-hit, then-pass, four}
-use Rattle.judge.proofs.Lasts.{absent-found, rule-17-found}
+use Rattle.judge.proofs.Lasts.{numbered-further, absent-found, rule-17-found}
 
 -- ---- the sender's stored block
-
-numbered-further : (x : Block) (l : List Block) (n : ℕ) → numbered (x ∷ l) (further n) ≡ numbered l n
-unfolding numbered further
-numbered-further x l zero = refl
-numbered-further x l (suc n) = refl
 
 first-kept : (p : Block → Bool) (l : List Block) → numbered l (place p l) ≡ numbered (keep p l) 1
 unfolding numbered keep place
@@ -88,8 +83,8 @@ last-by free slot us series x places numbers k a b =
 
 -- ---- what is handed on
 
-pub handed-none : {v : Verdict} {slot : ℕ} {us series : List Block} {places numbers : List ℕ} → (v .number ≡ 0 → ⊥) → Handed v slot us series places numbers
-handed-none n = record { on = λ z. absurd (n z) }
+pub found-none : {v : Verdict} {slot : ℕ} {us series : List Block} {places numbers : List ℕ} → (v .number ≡ 0 → ⊥) → FoundIf v slot us series places numbers
+found-none n = record { found = λ z. absurd (n z) }
 
-pub handed : {v : Verdict} {slot : ℕ} {us series : List Block} {places numbers : List ℕ} → Found slot false us series places → Found 0 false series us numbers → Handed v slot us series places numbers
-handed a b = record { on = λ z. (a, b) }
+pub found-both : {v : Verdict} {slot : ℕ} {us series : List Block} {places numbers : List ℕ} → Found slot false us series places → Found 0 false series us numbers → FoundIf v slot us series places numbers
+found-both a b = record { found = λ z. (a, b) }

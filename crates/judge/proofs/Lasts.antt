@@ -21,7 +21,7 @@ use Rattle.judge.specs.Looked.{Taken}
 
 -- ---- a block by the place of the first that passes
 
-numbered-further : (x : Block) (l : List Block) (n : ℕ) → numbered (x ∷ l) (further n) ≡ numbered l n
+pub numbered-further : (x : Block) (l : List Block) (n : ℕ) → numbered (x ∷ l) (further n) ≡ numbered l n
 unfolding numbered further
 numbered-further x l zero = refl
 numbered-further x l (suc n) = refl

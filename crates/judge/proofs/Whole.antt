@@ -22,7 +22,7 @@ use Rattle.paper.specs.Rules.{numberOf, _then_, broken, rule1, judge, verdict}
 use Rattle.facts.specs.Book.{series-of-yes, slots-length}
 use Rattle.facts.specs.Layout.{value-zeros}
 use Rattle.facts.specs.Sound.{sound-says}
-use Rattle.judge.specs.Looked.{Taken, Handed, PassedIf}
+use Rattle.judge.specs.Looked.{Taken, FoundIf, HandedIf}
 use Rattle.judge.proofs.Laws.{then-hit, then-pass}
 
 -- ---- how many pass, where all pass behind the first that does
@@ -104,13 +104,13 @@ taken b m q p e f =
       kinds = rw f (all-imply _ _ (λ y r. series-of-yes 0 y (and-left _ _ (and-left _ _ r)) (no-slot y (and-right _ _ (and-left _ _ r)))) (seriesOf m) (every-all _ _ (and-right _ _ w)));
     }
 
-pub passed-none : {v : Verdict} {b m : Bytes} {many slot : ℕ} {places numbers : List ℕ} (n : ℕ) → v ≡ broken true (suc n) 0 0 → PassedIf v b m many slot places numbers
+pub handed-none : {v : Verdict} {b m : Bytes} {many slot : ℕ} {places numbers : List ℕ} (n : ℕ) → v ≡ broken true (suc n) 0 0 → HandedIf v b m many slot places numbers
 unfolding broken
-passed-none n e = record { passed = λ z. absurd (let y : suc n ≡ 0 = sym (ap numberOf e) ∙ z in omega arith) }
+handed-none n e = record { handed = λ z. absurd (let y : suc n ≡ 0 = sym (ap numberOf e) ∙ z in omega arith) }
 
-pub passed-on : {v : Verdict} (b m : Bytes) {us series : List Block} {h : Block} {many slot : ℕ} {places numbers : List ℕ} → us ≡ used b → series ≡ seriesOf m → h ≡ headOf m → many ≡ length us
-    → slot ≡ slotOf us (sender h) → Handed v slot us series places numbers → PassedIf v b m many slot places numbers
-passed-on b m e f g n k a = record {
-  passed = λ z.
-      record { many-used = n ∙ ap length e; senders-slot = k ∙ ap₂ (λ u x. slotOf u (sender x)) e g; stored = rw (e, f) at (a .on z .0); named = rw (e, f) at (a .on z .1) };
+pub handed-on : {v : Verdict} (b m : Bytes) {us series : List Block} {h : Block} {many slot : ℕ} {places numbers : List ℕ} → us ≡ used b → series ≡ seriesOf m → h ≡ headOf m → many ≡ length us
+    → slot ≡ slotOf us (sender h) → FoundIf v slot us series places numbers → HandedIf v b m many slot places numbers
+handed-on b m e f g n k a = record {
+  handed = λ z.
+      record { used-many = n ∙ ap length e; senders-slot = k ∙ ap₂ (λ u x. slotOf u (sender x)) e g; stored = rw (e, f) at (a .found z .0); sent = rw (e, f) at (a .found z .1) };
 }

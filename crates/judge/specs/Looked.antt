@@ -7,13 +7,14 @@ use lib.ListN.{length}
 use Rattle.laws.specs.Tests.{_or_, neg}
 use Rattle.laws.specs.Lists.{apart, All}
 use Rattle.paper.specs.declared.Verdict.{Verdict}
-use Rattle.paper.specs.Layout.{Bytes, Block, idOf, sender}
+use Rattle.paper.specs.Layout.{Bytes, Block, idOf}
 use Rattle.paper.specs.Ids.{idWellFormed}
-use Rattle.paper.specs.Book.{used, slotOf, isSeriesOf}
+use Rattle.paper.specs.Book.{used, isSeriesOf}
 use Rattle.paper.specs.Message.{headOf, seriesOf}
 use Rattle.paper.specs.Sound.{sameSeries}
 use Rattle.paper.specs.Rules.{numberOf, _then_, broken, rule8, rule9, rule10, valuesVerdict}
 use Rattle.index.specs.Linked.{Found}
+use Rattle.index.specs.Handed.{Handed}
 
 -- us are the used slots of a sound book, series those of a message that rule 2 lets pass
 pub record Taken (us series : List Block) : Type 0 where
@@ -35,16 +36,10 @@ seriesBy d h x otherwise s y =
     (broken (neg (idWellFormed (idOf y)) or otherwise) 7 s 0 then broken (rule8 h y) 8 s 0 then broken (rule9 d y) 9 s 0 then broken (rule10 y) 10 s 0)
     then valuesVerdict d h x s y
 
--- what a message that passes hands on: of each of its series the slot, and of each used slot the message's series with its pair
-pub record Handed (v : Verdict) (slot : ℕ) (us series : List Block) (places numbers : List ℕ) : Type 0 where
-  pub on : numberOf v ≡ 0 → Found slot false us series places × Found 0 false series us numbers
+-- of a message that passes: of each of its series the slot, and of each used slot the message's series with its pair
+pub record FoundIf (v : Verdict) (slot : ℕ) (us series : List Block) (places numbers : List ℕ) : Type 0 where
+  pub found : numberOf v ≡ 0 → Found slot false us series places × Found 0 false series us numbers
 
--- the same of a book and a message
-pub record Passed (book message : Bytes) (many slot : ℕ) (places numbers : List ℕ) : Type 0 where
-  pub many-used : many ≡ length (used book)
-  pub senders-slot : slot ≡ slotOf (used book) (sender (headOf message))
-  pub stored : Found slot false (used book) (seriesOf message) places
-  pub named : Found 0 false (seriesOf message) (used book) numbers
-
-pub record PassedIf (v : Verdict) (book message : Bytes) (many slot : ℕ) (places numbers : List ℕ) : Type 0 where
-  pub passed : numberOf v ≡ 0 → Passed book message many slot places numbers
+-- what is handed on to the acceptance, if there is one
+pub record HandedIf (v : Verdict) (book message : Bytes) (many slot : ℕ) (places numbers : List ℕ) : Type 0 where
+  pub handed : numberOf v ≡ 0 → Handed (used book) (headOf message) (seriesOf message) many slot places numbers

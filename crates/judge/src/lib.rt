@@ -11,7 +11,7 @@ ghost use Rattle.paper.specs.Layout.{sender};
 ghost use Rattle.paper.specs.Book.{slotOf, isSender, isSeriesOf, ownSender, ownSeries};
 ghost use Rattle.paper.specs.Rules.{_then_, broken, rule3, rule4, rule5, rule6, judge, verdict};
 ghost use Rattle.eic.specs.Table.{IsTable};
-ghost use Rattle.judge.specs.Looked.{Taken, Handed, PassedIf};
+ghost use Rattle.judge.specs.Looked.{Taken, FoundIf, HandedIf};
 
 pub mod order;
 pub mod positions;
@@ -86,7 +86,7 @@ pub fn judge_from(
     numbers: &mut [u16; 1000],
 ) -> Verdict
     requires { ⌜ IsTable (now table) × (slot .0 ≡ slotOf (cut 512 (now us)) (sender (now h))) × Taken (cut 512 (now us)) (cut 512 (now series)) × (length (now places) ≡ 1000) × (length (now numbers) ≡ 1000) ⌝ }
-    ensures { λ r. ⌜ (r ≡ judge (now (d .entry)) (ownSender (cut 512 (now (us .entry))) (sender (now (h .entry)))) (ownSeries (cut 512 (now (us .entry))) (sender (now (h .entry)))) free (now (h .entry)) (cut 512 (now (series .entry)))) × Handed r (slot .0) (cut 512 (now (us .entry))) (cut 512 (now (series .entry))) (now (places .exit)) (now (numbers .exit)) ⌝ }
+    ensures { λ r. ⌜ (r ≡ judge (now (d .entry)) (ownSender (cut 512 (now (us .entry))) (sender (now (h .entry)))) (ownSeries (cut 512 (now (us .entry))) (sender (now (h .entry)))) free (now (h .entry)) (cut 512 (now (series .entry)))) × FoundIf r (slot .0) (cut 512 (now (us .entry))) (cut 512 (now (series .entry))) (now (places .exit)) (now (numbers .exit)) ⌝ }
 {
     let own = slot.0;
     let stored = numbered(us, Slot(own));
@@ -125,7 +125,7 @@ pub fn judge_book(
     numbers: &mut [u16; 1000],
 ) -> Judged
     requires { ⌜ (length (now places) ≡ 1000) × (length (now numbers) ≡ 1000) ⌝ }
-    ensures { λ r. ⌜ (r .verdict ≡ verdict (now (book .entry)) (now (message .entry))) × PassedIf (r .verdict) (now (book .entry)) (now (message .entry)) (r .used) (r .slot) (now (places .exit)) (now (numbers .exit)) ⌝ }
+    ensures { λ r. ⌜ (r .verdict ≡ verdict (now (book .entry)) (now (message .entry))) × HandedIf (r .verdict) (now (book .entry)) (now (message .entry)) (r .used) (r .slot) (now (places .exit)) (now (numbers .exit)) ⌝ }
 {
     if !sound(book) {
         return Judged {

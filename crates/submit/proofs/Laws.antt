@@ -1,16 +1,11 @@
 -- The book after a submission, by the number of its verdict v.
 use mathlib.Core.Path.{_≡_, refl, sym, ap, _∙_}
-use mathlib.Core.List.{List}
-use Prim.Native.Nat.{ℕ}
 use Rattle.laws.specs.Tests.Laws.{is-equal, is-other}
 use Rattle.paper.specs.declared.Verdict.{Verdict}
 use Rattle.paper.specs.Layout.{Bytes}
 use Rattle.paper.specs.Rules.{numberOf, verdict}
 use Rattle.paper.specs.Acceptance.{accepted, submitted}
-use Rattle.paper.specs.Book.{used}
-use Rattle.paper.specs.Message.{headOf, seriesOf}
-use Rattle.judge.specs.Looked.{PassedIf}
-use Rattle.accept.specs.Fits.{Fits, Handed}
+use Rattle.accept.specs.Fits.{Fits}
 use Rattle.accept.specs.Passed.{passed-fits}
 
 module _ (book message : Bytes) (v : Verdict) (e : v ≡ verdict book message) where
@@ -24,10 +19,3 @@ module _ (book message : Bytes) (v : Verdict) (e : v ≡ verdict book message) w
 
   pub accepted-fits : numberOf v ≡ 0 → Fits book message
   accepted-fits z = passed-fits book message (sym (ap numberOf e) ∙ z)
-
--- what the judgement hands on is what the acceptance goes on from
-pub handed-on : (v : Verdict) (book message : Bytes) (many slot : ℕ) (places numbers : List ℕ) → PassedIf v book message many slot places numbers → numberOf v ≡ 0
-    → Handed (used book) (headOf message) (seriesOf message) many slot places numbers
-handed-on v book message many slot places numbers p z =
-    let q = p .passed z in
-    record { used-many = q .many-used; senders-slot = q .senders-slot; stored = q .stored; sent = q .named }

@@ -15,7 +15,8 @@ use Rattle.laws.specs.Loops.{over}
 use Rattle.paper.specs.Layout.{Bytes, Block}
 use Rattle.paper.specs.Book.{isFree}
 use Rattle.paper.specs.Acceptance.{renewed, remarked, usedAfter}
-use Rattle.accept.specs.Fits.{Placing, Handed}
+use Rattle.index.specs.Handed.{Handed}
+use Rattle.accept.specs.Fits.{Placing}
 use Rattle.accept.specs.Steps.{Laid, senderIfNew, addedTo, Numbers, Others}
 use Rattle.accept.proofs.Laws.Lent.{cut-first, cut-lent-first}
 use Rattle.accept.proofs.Laws.Phases.{room, used-numbers, placed-others, three}

@@ -16,7 +16,8 @@ use Rattle.paper.specs.Layout.{Bytes, Block, sender, withSendersSlot}
 use Rattle.paper.specs.Book.{isSenderBlockOf, isSeriesOf, slotOf, ownSeries}
 use Rattle.paper.specs.Rules.{isNew}
 use Rattle.paper.specs.Acceptance.{slotFor, senderKept, renewed, fresh, placed, remarked, usedAfter}
-use Rattle.accept.specs.Fits.{Placing, Handed}
+use Rattle.index.specs.Handed.{Handed}
+use Rattle.accept.specs.Fits.{Placing}
 use Rattle.accept.specs.Steps.{Laid, senderIfNew, addedTo, Numbers, Others}
 use Rattle.accept.proofs.Laws.Adding.{all-new}
 use Rattle.accept.proofs.Laws.Renewing.{numbers-found}

@@ -16,7 +16,8 @@ use Rattle.paper.specs.Layout.{Bytes, Block, nOf}
 use Rattle.paper.specs.Book.{dayBlock, slots, isFree, used}
 use Rattle.paper.specs.Message.{headOf, seriesOf}
 use Rattle.paper.specs.Acceptance.{usedAfter, accepted}
-use Rattle.accept.specs.Fits.{Placing, Fits, Handed}
+use Rattle.index.specs.Handed.{Handed}
+use Rattle.accept.specs.Fits.{Placing, Fits}
 
 -- ---- bytes of whole blocks, joined again
 

@@ -22,7 +22,7 @@ use Rattle.index.specs.Linked.{bucket, keyOf, ownIn, seriesIn, Heads, Ne
 -- ---- the first that passes p, from t on
 
 module _ {X : Type 0} (p : X → Bool) where
-  hit : (d : X) (t : ℕ) (r : List X) (n : ℕ) → suc n ≡ placeFrom t p r → (m : ℕ) × (n ≡ t + m) × (m < length r) × (has p (take m r) ≡ false) × (p (getD r m d) ≡ true)
+  pub hit : (d : X) (t : ℕ) (r : List X) (n : ℕ) → suc n ≡ placeFrom t p r → (m : ℕ) × (n ≡ t + m) × (m < length r) × (has p (take m r) ≡ false) × (p (getD r m d) ≡ true)
   unfolding placeFrom has
   hit d t [] n e = absurd (omega arith)
   hit d t (x ∷ xs) n e = split (p x) (λ u. let z : suc n ≡ t + 1 = rw u at e in (0, omega arith, omega arith, refl, u))

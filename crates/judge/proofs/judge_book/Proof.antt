@@ -4,20 +4,20 @@ use denote.Ref.{now}
 use Rattle.laws.specs.Bytes.{part}
 use Rattle.laws.specs.Cut.Laws.{cut-length}
 use Rattle.paper.specs.Book.{dayBlock, slotOf}
-use Rattle.judge.proofs.Whole.{free-count, judged-by, malformed, unsound, used-part, used-many, taken, passed-none, passed-on}
+use Rattle.judge.proofs.Whole.{free-count, judged-by, malformed, unsound, used-part, used-many, taken, handed-none, handed-on}
 use Rattle.judge.proofs.judge_book.Statement.{statement}
 use Rattle.judge.proofs.judge_book.Tie as tie
 
 returns : tie.Need-returns
 returns c =
     let b = c .broken .ensures in
-    (unsound _ _ (denied (c .before .before .sound .ensures) (c .before .if1 .taken)) b, passed-none 0 b)
+    (unsound _ _ (denied (c .before .before .sound .ensures) (c .before .if1 .taken)) b, handed-none 0 b)
 
 returns-2 : tie.Need-returns-2
 returns-2 c =
     let r = c .before .before in
     let b = c .broken2 .ensures in
-    (malformed _ _ (told (r .before .before .sound .ensures) (r .before .if1 .left)) (sym (r .rule-2 .ensures) ∙ c .before .if2 .taken) b, passed-none 1 b)
+    (malformed _ _ (told (r .before .before .sound .ensures) (r .before .if1 .left)) (sym (r .rule-2 .ensures) ∙ c .before .if2 .taken) b, handed-none 1 b)
 
 judge-from-requires : tie.Need-judge-from-requires
 judge-from-requires c κs =
@@ -52,7 +52,7 @@ returns-3 c =
     let us = used-part _ _ _ (o .part-of .ensures) (u .before .used-count .ensures .0) _ (u .part-of2 .ensures) in (
       judged-by _ _ right (sym (r .rule-2 .ensures) ∙ v .before .if2 .left) (d .part-of3 .ensures) us
           (free-count _ _ _ (o .part-of .ensures) (u .before .used-count .ensures .0) right) (h .head-of .ensures) (s .series-of .ensures) (c .judge-from .ensures .0),
-      passed-on _ _ us (s .series-of .ensures) (h .head-of .ensures) (used-many (now (r .before .before .before .before .before .args .book)) (now (o .part-of .result)) (u .before .used-count .result) (o .part-of .ensures) (u .before .used-count .ensures .0) _ (u .part-of2 .ensures))
+      handed-on _ _ us (s .series-of .ensures) (h .head-of .ensures) (used-many (now (r .before .before .before .before .before .args .book)) (now (o .part-of .result)) (u .before .used-count .result) (o .part-of .ensures) (u .before .used-count .ensures .0) _ (u .part-of2 .ensures))
           (k .slot-of .ensures ∙ ap (slotOf _) (k .before .sender .ensures)) (c .judge-from .ensures .1),
     )
 

@@ -2,7 +2,7 @@
 use Rattle.laws.specs.Kit.{needs, _∙_}
 use denote.Ref.{now}
 use Rattle.judge.proofs.Lasts.{sizes}
-use Rattle.judge.proofs.Joined.{judged-head, judged-last, judged-series, last-by, handed-none, handed}
+use Rattle.judge.proofs.Joined.{judged-head, judged-last, judged-series, last-by, found-none, found-both}
 use Rattle.judge.proofs.judge_from.Statement.{statement}
 use Rattle.judge.proofs.judge_from.Tie as tie
 
@@ -10,7 +10,7 @@ returns : tie.Need-returns
 returns c =
     let v = c .before .before in
     let a = v .before .before .before .before .before .before in
-    (judged-head _ _ _ _ _ _ _ (a .pre .1) (v .before .numbered .ensures) (v .head-verdict .ensures) (c .if1 .taken), handed-none (c .if1 .taken))
+    (judged-head _ _ _ _ _ _ _ (a .pre .1) (v .before .numbered .ensures) (v .head-verdict .ensures) (c .if1 .taken), found-none (c .if1 .taken))
 
 returns-2 : tie.Need-returns-2
 returns-2 c =
@@ -18,7 +18,7 @@ returns-2 c =
     let f = w .before .before in
     let v = f .before .before in
     let a = v .before .before .before .before .before .before in
-    (judged-series _ _ _ _ _ _ _ (a .pre .1) (v .before .numbered .ensures) (v .head-verdict .ensures) (f .if1 .left) (w .walk .ensures .0) (c .if2 .taken), handed-none (c .if2 .taken))
+    (judged-series _ _ _ _ _ _ _ (a .pre .1) (v .before .numbered .ensures) (v .head-verdict .ensures) (f .if1 .left) (w .walk .ensures .0) (c .if2 .taken), found-none (c .if2 .taken))
 
 look-up-requires : tie.Need-look-up-requires
 look-up-requires c κs =
@@ -45,7 +45,7 @@ returns-3 c =
     let a = v .before .before .before .before .before .before in (
       judged-last _ _ _ _ _ _ _ (a .pre .1) (v .before .numbered .ensures) (v .head-verdict .ensures) (f .if1 .left) (w .walk .ensures .0) (f2 .if2 .left)
           (c .last-verdict .ensures ∙ last-by _ _ (now (a .args .us)) (now (a .args .series)) _ _ _ (a .pre .2) (w .walk .ensures .1) (u .look-up .ensures)),
-      handed (w .walk .ensures .1) (u .look-up .ensures),
+      found-both (w .walk .ensures .1) (u .look-up .ensures),
     )
 
 pub judge-from-spec : {M : Type 1} → statement M

@@ -14,7 +14,8 @@ use Rattle.laws.specs.Cut.Laws.{cut-length}
 use Rattle.paper.specs.Layout.{Bytes, Block}
 use Rattle.sound.specs.Links.{group, inGroup, Heads, Nexts}
 use Rattle.laws.specs.Loops.{placeFrom}
-use Rattle.sound.proofs.Laws.Search.{hit, none, count-none, every-none, count-past, every-past}
+use Rattle.index.specs.Linked.Laws.{hit}
+use Rattle.sound.proofs.Laws.Search.{none, count-none, every-none, count-past, every-past}
 
 -- ---- a link followed: n is the place of the next block of group g from t on, if there is one
 

@@ -13,12 +13,6 @@ use Rattle.laws.specs.Lists.Laws.{all-imply, every-append, has-no-all, all-ever
 use Rattle.laws.specs.Loops.{placeFrom}
 
 module _ {X : Type 0} (p : X → Bool) where
-  pub hit : (d : X) (t : ℕ) (r : List X) (n : ℕ) → suc n ≡ placeFrom t p r → (m : ℕ) × (n ≡ t + m) × (m < length r) × (has p (take m r) ≡ false) × (p (getD r m d) ≡ true)
-  unfolding placeFrom has
-  hit d t [] n e = absurd (omega arith)
-  hit d t (x ∷ xs) n e = split (p x) (λ u. let z : suc n ≡ t + 1 = rw u at e in (0, omega arith, omega arith, refl, u))
-      (λ u. let h = hit d (t + 1) xs n (rw u at e) in (suc (h .0), omega (arith, h .1), omega (arith, h .2), or-no _ _ u (h .3), h .4))
-
   pub none : (t : ℕ) (r : List X) → 0 ≡ placeFrom t p r → has p r ≡ false
   unfolding placeFrom has
   none t [] e = refl

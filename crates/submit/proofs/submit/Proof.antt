@@ -1,6 +1,6 @@
 -- A refusal leaves the book as it was, by the definition; a verdict of 0 gives what the acceptance relies on.
 use Rattle.laws.specs.Kit.{needs}
-use Rattle.submit.proofs.Laws.{submitted-refused, submitted-accepted, accepted-fits, handed-on}
+use Rattle.submit.proofs.Laws.{submitted-refused, submitted-accepted, accepted-fits}
 use Rattle.submit.proofs.submit.Statement.{statement}
 use Rattle.submit.proofs.submit.Tie as tie
 
@@ -11,7 +11,7 @@ accept-requires : tie.Need-accept-requires
 accept-requires c κs =
     let e = c .before .before .before in
     let j = e .before .before .before .judge-book .ensures in
-    (accepted-fits _ _ _ (j .0) (e .if1 .left), handed-on _ _ _ _ _ _ _ (j .1) (e .if1 .left))
+    (accepted-fits _ _ _ (j .0) (e .if1 .left), j .1 .handed (e .if1 .left))
 
 returns-2 : tie.Need-returns-2
 returns-2 c =

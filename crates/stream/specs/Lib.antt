@@ -1,0 +1,2 @@
+-- The fields of a record's body.
+pub mod Fields
