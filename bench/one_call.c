@@ -22,7 +22,7 @@ static size_t read_file(const char *name, uint8_t *into, size_t room) {
 }
 
 static tetherbay_verdict call(const char *what, size_t length) {
-    tetherbay_verdict v = {0, 0, 0};
+    tetherbay_verdict v = {0};
     if (!strcmp(what, "submit")) return tetherbay_submit(book, length, message, message_length);
     if (!strcmp(what, "sound")) v.number = tetherbay_sound(book, length);
     if (!strcmp(what, "checks")) v.number = tetherbay_checks_right(book, length);
@@ -59,7 +59,7 @@ int main(int argc, char **argv) {
         printf("%.1f\n", times[many / 2]);
         return 0;
     }
-    tetherbay_verdict v = {0, 0, 0};
+    tetherbay_verdict v = {0};
     if (many) v = call(argv[1], length);
     printf("%02u %03zu %03zu\n", v.number, v.series, v.position);
     if (argc < 6) return 0;

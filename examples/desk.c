@@ -53,7 +53,7 @@ static void submit(const char *who) {
     tetherbay_seal(message, BLOCK);
     tetherbay_seal(message + BLOCK, BLOCK);
     tetherbay_verdict v = tetherbay_submit(book, sizeof book, message, sizeof message);
-    printf("%s: number %u, code A%02u, series %zu, position %zu\n", who, v.number, tetherbay_reason_code(v.number), v.series, v.position);
+    printf("%s: number %u, code A%02u, series %zu, position %zu\n", who, v.number, v.code, v.series, v.position);
 }
 
 static void print_mark(const char *sender, const char *series_id) {

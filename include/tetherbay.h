@@ -79,9 +79,11 @@ typedef struct {
 /* Moves the clock to a minute. 1 where the book is not sound; else 22 where the minute is below the kept clock or above 11,580. */
 tetherbay_clock_answer tetherbay_clock(uint8_t *book, size_t length, uint16_t minute);
 
-/* 0, or the number of the first broken rule, 1 to 17; 7 to 15 give the number of the series and 11 to 14 the position, no other does. */
+/* 0, or the number of the first broken rule, 1 to 17, with its reason code (1 for A01 on 0; 0 where a number has none); 7 to 15 give the number of the
+   series and 11 to 14 the position, no other does. */
 typedef struct {
     uint32_t number;
+    uint8_t code;
     size_t series;
     size_t position;
 } tetherbay_verdict;

@@ -74,17 +74,21 @@ static void submissions(void) {
     seal_message();
     tetherbay_verdict v = tetherbay_judge(book, sizeof book, message, sizeof message);
     is("judge, number", v.number, 11);
+    is("judge, code", v.code, 46);
     is("judge, series", v.series, 2);
     is("judge, position", v.position, 99);
     v = tetherbay_submit(book, sizeof book, message, sizeof message);
     is("submit refused, number", v.number, 11);
+    is("submit refused, code", v.code, 46);
     is("submit refused, series", v.series, 2);
     is("submit refused, position", v.position, 99);
 
     write_message(2);
     put(message + BLOCK + 108 + 4 * 99, 4, 7);
     seal_message();
-    is("submit the other side, number", tetherbay_submit(book, sizeof book, message, sizeof message).number, 0);
+    v = tetherbay_submit(book, sizeof book, message, sizeof message);
+    is("submit the other side, number", v.number, 0);
+    is("submit the other side, code", v.code, 1);
 }
 
 /* Slots 1 to 6: party 1 and its two series, party 2 and its two. They differ at position 100. */

@@ -6,9 +6,8 @@ use Prim.Native.Nat.{ℕ, _/_, _%_, _≤_}
 use lib.ListN.{length}
 use Rattle.laws.specs.Lists.{has, keep, All}
 use Rattle.paper.specs.Layout.{Bytes, Block, nOf, sender, pair}
-use Rattle.paper.specs.Book.{dayBlock, slots, used, isSender, isSeries, isSeriesOf, ownSeries}
+use Rattle.paper.specs.Book.{dayBlock, slots, used, isSender, isSeries, isSeriesOf, ownSeries, pairIs}
 use Rattle.paper.specs.Message.{headOf, seriesOf}
-use Rattle.paper.specs.Rules.{pairIs}
 use Rattle.paper.specs.Acceptance.{slotFor, placed}
 
 -- us are the used ones of `many` slots, h a message's first block, series its series

@@ -16,10 +16,10 @@ use Rattle.laws.specs.Order.Laws.{first-left, first-right}
 use Rattle.paper.specs.declared.Verdict.{Verdict}
 use Rattle.paper.specs.Layout.{Bytes, sender, sendersSlot, pair, seriesZerosInMessage}
 use Rattle.paper.specs.Ranges.{wholeBlocks}
-use Rattle.paper.specs.Book.{dayBlock, slots, used, freeSlots, isSender, isSeries, isSeriesOf, ownSender, ownSeries}
+use Rattle.paper.specs.Book.{dayBlock, slots, used, freeSlots, isSender, isSeries, isSeriesOf, ownSender, ownSeries, pairIs}
 use Rattle.paper.specs.Sound.{usedSound}
 use Rattle.paper.specs.Message.{headOf, seriesOf, headRight, seriesRight, messageRight, rule2}
-use Rattle.paper.specs.Rules.{numberOf, _then_, broken, pairIs, rule1, absent, rule16, rule17, judge, verdict}
+use Rattle.paper.specs.Rules.{numberOf, _then_, broken, rule1, absent, rule16, rule17, lastVerdict, judge, verdict}
 use Rattle.paper.specs.Acceptance.{placed}
 use Rattle.facts.specs.Layout.{value-zeros}
 use Rattle.facts.specs.Book.{slots-length, series-of-yes}
@@ -53,9 +53,9 @@ module _ (book message : Bytes) (e : numberOf (verdict book message) ≡ 0) wher
   is-message = neg-no _ (passed _ 1 0 0 (then-left _ _ (then-right _ _ e)))
 
   ends : numberOf (broken (rule16 (ownSeries (used book) (sender (headOf message))) (seriesOf message)) 16 0 0
-      then broken (rule17 (freeSlots book) (ownSender (used book) (sender (headOf message))) (ownSeries (used book) (sender (headOf message))) (seriesOf message)) 17 0 0) ≡ 0
-  unfolding verdict judge
-  ends = then-right _ _ (then-right _ _ (then-right _ _ (then-right _ _ (then-right _ _ (then-right _ _ (then-right _ _ e))))))
+      then broken (rule17 (ownSender (used book) (sender (headOf message))) (ownSeries (used book) (sender (headOf message))) (freeSlots book) (seriesOf message)) 17 0 0) ≡ 0
+  unfolding verdict judge lastVerdict
+  ends = then-right _ _ (then-right _ _ (then-right _ _ (then-right _ _ e)))
 
   -- ---- the book
 

@@ -5,9 +5,9 @@ use native.Mathlib.Omega.{arith}
 use lib.ListN.{length, length-append, length-map}
 use Rattle.laws.specs.Tests.Laws.{split}
 use Rattle.laws.specs.Lists.{has, keep, count, until}
-use Rattle.laws.specs.Lists.Laws.{keep-none, count-keep, count-length}
+use Rattle.laws.specs.Lists.Laws.{has-no-place, count-keep, count-length}
 use Rattle.paper.specs.Layout.{Block, sender, withSendersSlot}
-use Rattle.paper.specs.Book.{isFree, numbered, isSenderBlockOf, ownSender, ownSeries}
+use Rattle.paper.specs.Book.{isFree, numbered, isSenderBlockOf, slotOf, ownSender, ownSeries}
 use Rattle.paper.specs.Rules.{isNew, newBlocks}
 use Rattle.paper.specs.Acceptance.{slotFor, renewed, fresh, placed}
 use Rattle.facts.specs.Book.{no-block-sender}
@@ -19,11 +19,11 @@ free-behind (x ∷ l) = split (isFree x) (λ t. rw t (omega (arith, count-length
 
 module _ (us : List Block) (h : Block) (series : List Block) where
   fresh-few : length (fresh us h series) ≤ newBlocks (ownSender us (sender h)) (ownSeries us (sender h)) series
-  unfolding fresh newBlocks ownSender numbered
+  unfolding fresh newBlocks ownSender slotOf numbered
   fresh-few =
       let k = length-map (keep (isNew (ownSeries us (sender h))) series) (withSendersSlot (slotFor us (sender h))) in
       let n = count-keep (isNew (ownSeries us (sender h))) series in
-      split (has (isSenderBlockOf (sender h)) us) (λ t. rw t (omega arith)) (λ t. rw (t, keep-none _ us t, no-block-sender) (omega arith))
+      split (has (isSenderBlockOf (sender h)) us) (λ t. rw t (omega arith)) (λ t. rw (t, has-no-place _ us t, no-block-sender) (omega arith))
 
   pub placed-few : length (placed us h series) ≤ length us + newBlocks (ownSender us (sender h)) (ownSeries us (sender h)) series
   unfolding placed

@@ -8,9 +8,8 @@ use Rattle.laws.specs.Tests.{_and_, _or_, neg, is}
 use Rattle.laws.specs.Lists.{place, has}
 use Rattle.laws.specs.Loops.{over}
 use Rattle.paper.specs.Layout.{Block, sendersSlot, pair, withSendersSlot}
-use Rattle.paper.specs.Book.{isSeries}
-use Rattle.paper.specs.Rules.{pairIs}
-use Rattle.paper.specs.Acceptance.{senderKept, isSeriesOfPair}
+use Rattle.paper.specs.Book.{isSeries, pairIs, isSeriesOfPair}
+use Rattle.paper.specs.Acceptance.{senderKept}
 
 -- a is laid over l from place s on, which gives r and ends at e
 pub record Laid (s : ℕ) (a l r : List Block) (e : ℕ) : Type 0 where

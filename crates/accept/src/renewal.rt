@@ -6,7 +6,7 @@ ghost use lib.ListN.{length};
 ghost use Rattle.laws.specs.Lists.{place};
 ghost use Rattle.laws.specs.Cut.{cut};
 ghost use Rattle.paper.specs.Layout.{pair, withSendersSlot};
-ghost use Rattle.paper.specs.Rules.{pairIs};
+ghost use Rattle.paper.specs.Book.{pairIs};
 ghost use Rattle.paper.specs.Acceptance.{senderKept, renewed};
 ghost use Rattle.accept.specs.Steps.{Numbers};
 use super::fields::write_bytes;

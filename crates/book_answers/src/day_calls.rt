@@ -48,7 +48,7 @@ fn clock(book: &mut [u8], body: &[u8], line: &mut [u8]) {
 fn show_verdict(verdict: Verdict, line: &mut [u8]) {
     let at = line::text(line, 0, b"submit");
     let at = line::number(line, at, verdict.number as u64);
-    let at = line::number(line, at, codes::reason_code(verdict.number) as u64);
+    let at = line::number(line, at, verdict.code as u64);
     let at = line::number(line, at, verdict.series as u64);
     let at = line::number(line, at, verdict.position.0 as u64);
     line::end(line, at);

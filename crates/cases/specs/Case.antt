@@ -48,7 +48,7 @@ reads s = quantityRead (text s) .number ∷ quantityRead (text s) .kilowatts ∷
 
 -- number, series, position, code
 abbrev pub toldBy : Verdict → List ℕ
-toldBy v = v .number ∷ v .series ∷ v .position .0 ∷ reasonCode (v .number) ∷ []
+toldBy v = v .number ∷ v .series ∷ v .position .0 ∷ v .code ∷ []
 
 abbrev pub submission : (book message : Bytes) → List ℕ
 submission book message = once (λ m. toldBy (verdict book m)) message

@@ -6,18 +6,18 @@ use Rattle.laws.specs.Bytes.{part, written, value, little, number}
 use Rattle.laws.specs.Cut.{chunks, cut, join}
 use Rattle.laws.specs.Order.{first as firstRefusal, along}
 use Rattle.paper.specs.Check.{checkStep, checkFrom, checkOf, checkRight, sealed}
-use Rattle.paper.specs.Layout.{zeros, kind, nOf, lead, clock, dayOfBook, area, receiver, dayZeros, version, idOf, seriesCount, sender, dayOfMessage, nets, senderZeros, businessType, contractType, sendersSlot, inArea, outArea, inParty, outParty, pair, agreement, mark, state, first, partner, quantities, entry, quantity, aboveN, senderZerosInMessage, seriesZerosInMessage, withClock, withSendersSlot, withMark, withNets}
-use Rattle.paper.specs.Ranges.{wholeBlocks, nAllowed, leadAllowed, clockAllowed, versionAllowed, countAllowed, quantityAllowed, netAllowed, entriesAllowed}
+use Rattle.paper.specs.Layout.{zeros, kind, nOf, lead, clockPlus10080, dayOfBook, area, receiver, dayZeros, version, idOf, seriesCount, sender, dayOfMessage, nets, net, senderZeros, businessType, contractType, sendersSlot, inArea, outArea, inParty, outParty, pair, agreement, mark, state, first, partner, quantities, entry, quantity, aboveN, senderZerosInMessage, seriesZerosInMessage, withClock, withSendersSlot, withMark, withNets}
+use Rattle.paper.specs.Ranges.{wholeBlocks, nAllowed, leadAllowed, clockAllowed, versionAllowed, countAllowed, quantityAllowed, netAllowed, quantitiesAllowed, netsAllowed}
 use Rattle.paper.specs.Ids.{digit, letter, hyphen, idCharacter, idText, idWellFormed, dayWellFormed}
 use Rattle.paper.specs.Eic.{characterValue, eicCharacter, weighted, eicSum, eicValid}
-use Rattle.paper.specs.Book.{dayBlock, slots, isFree, used, freeSlots, isSender, isSeries, numbered, isSenderBlockOf, slotOf, isSeriesOf, ownSender, ownSeries}
-use Rattle.paper.specs.Sound.{dayFields, daySound, usedFirst, countSound, senderFields, senderDay, senderSound, partiesOf, ownerSound, partnerSound, seriesFields, seriesCodes, seriesValues, seriesSound, usedSound, sameSender, sameSeries, sound}
+use Rattle.paper.specs.Book.{dayBlock, slots, isFree, used, freeSlots, isSender, isSeries, numbered, isSenderBlockOf, slotOf, isSeriesOf, ownSender, ownSeries, idIs, pairIs, isSeriesOfPair}
+use Rattle.paper.specs.Sound.{dayFields, daySound, usedFirst, countSound, senderFields, senderDayAndNets, senderSound, partiesOf, ownerSound, partnerSound, seriesFields, seriesCodes, seriesValues, seriesSound, usedSound, sameSender, sameSeries, sound}
 use Rattle.paper.specs.Message.{headOf, seriesOf, headRight, seriesRight, messageRight, rule2, seriesNumbered}
-use Rattle.paper.specs.Rules.{_then_, broken, overPositions, rule1, rule3, rule4, rule5, versionBroken, rule6, idIs, pairIs, withOtherPair, withOtherId, rule7, rule8, rule9, rule10, rule11, rule12, rule13, isOpen, closed, rule14, seriesVersion, rule15, absent, rule16, isNew, newBlocks, rule17, storedOf, quantityVerdict, closedVerdict, formVerdict, valuesVerdict, seriesVerdict, eachSeries, judge, verdict}
+use Rattle.paper.specs.Rules.{_then_, broken, overPositions, rule1, rule3, rule4, rule5, idOrVersionBroken, rule6, withOtherPair, withOtherId, rule7, rule8, rule9, rule10, rule11, rule12, rule13, isOpen, closed, rule14, seriesVersion, rule15, absent, rule16, isNew, newBlocks, rule17, storedOf, headVerdict, quantityVerdict, closedVerdict, formVerdict, valuesVerdict, seriesVerdict, eachSeries, lastVerdict, judge, verdict}
 use Rattle.paper.specs.Codes.{table, codeIn, reasonCode, statusCode, replyTo}
 use Rattle.paper.specs.Marks.{isCounterpart, counterpart, counterpartSlot, differenceFrom, firstDifference, markOf, markIn, stateCode}
 use Rattle.paper.specs.Nets.{bought, sold, netOf, netsTo, netsOf}
-use Rattle.paper.specs.Acceptance.{slotFor, senderKept, replaced, renewed, fresh, placed, isSeriesOfPair, touched, remarked, usedAfter, accepted, submitted}
+use Rattle.paper.specs.Acceptance.{slotFor, senderKept, replaced, renewed, fresh, placed, touched, remarked, usedAfter, accepted, submitted}
 use Rattle.paper.specs.Finals.{finalOf, held, isHeld, heldAt, finalIn, final}
 use Rattle.paper.specs.Opening.{dayBlockOf, openingAllowed, openNumber, opened}
 use Rattle.paper.specs.Clock.{dayState, advanced, clockAnswer, clockMoved}
@@ -33,7 +33,7 @@ general = 0
 
 -- "Blocks"
 unfoldable pub blocks : ℕ
-unfolding checkStep checkFrom checkOf checkRight sealed zeros kind nOf lead clock dayOfBook area receiver dayZeros version idOf seriesCount sender dayOfMessage nets senderZeros businessType contractType sendersSlot inArea outArea inParty outParty pair agreement mark state first partner quantities entry quantity aboveN senderZerosInMessage seriesZerosInMessage withClock withSendersSlot withMark withNets wholeBlocks nAllowed leadAllowed clockAllowed versionAllowed countAllowed quantityAllowed netAllowed entriesAllowed digit letter hyphen idCharacter idText idWellFormed dayWellFormed
+unfolding checkStep checkFrom checkOf checkRight sealed zeros kind nOf lead clockPlus10080 dayOfBook area receiver dayZeros version idOf seriesCount sender dayOfMessage nets net senderZeros businessType contractType sendersSlot inArea outArea inParty outParty pair agreement mark state first partner quantities entry quantity aboveN senderZerosInMessage seriesZerosInMessage withClock withSendersSlot withMark withNets wholeBlocks nAllowed leadAllowed clockAllowed versionAllowed countAllowed quantityAllowed netAllowed quantitiesAllowed netsAllowed digit letter hyphen idCharacter idText idWellFormed dayWellFormed
 blocks = 0
 
 -- "EIC"
@@ -43,12 +43,12 @@ eic = 0
 
 -- "Sound book"
 unfoldable pub soundBook : ℕ
-unfolding dayBlock slots isFree used freeSlots isSender isSeries numbered isSenderBlockOf slotOf isSeriesOf ownSender ownSeries dayFields daySound usedFirst countSound senderFields senderDay senderSound partiesOf ownerSound partnerSound seriesFields seriesCodes seriesValues seriesSound usedSound sameSender sameSeries sound
+unfolding dayBlock slots isFree used freeSlots isSender isSeries numbered isSenderBlockOf slotOf isSeriesOf ownSender ownSeries dayFields daySound usedFirst countSound senderFields senderDayAndNets senderSound partiesOf ownerSound partnerSound seriesFields seriesCodes seriesValues seriesSound usedSound sameSender sameSeries sound
 soundBook = 0
 
 -- "Submission: order of checks"
 unfoldable pub orderOfChecks : ℕ
-unfolding headOf seriesOf headRight seriesRight messageRight rule2 seriesNumbered _then_ broken overPositions rule1 rule3 rule4 rule5 versionBroken rule6 idIs pairIs withOtherPair withOtherId rule7 rule8 rule9 rule10 rule11 rule12 rule13 isOpen closed rule14 seriesVersion rule15 absent rule16 isNew newBlocks rule17 storedOf quantityVerdict closedVerdict formVerdict valuesVerdict seriesVerdict eachSeries judge verdict table codeIn reasonCode statusCode replyTo
+unfolding headOf seriesOf headRight seriesRight messageRight rule2 seriesNumbered _then_ broken overPositions rule1 rule3 rule4 rule5 idOrVersionBroken rule6 idIs pairIs withOtherPair withOtherId rule7 rule8 rule9 rule10 rule11 rule12 rule13 isOpen closed rule14 seriesVersion rule15 absent rule16 isNew newBlocks rule17 storedOf headVerdict quantityVerdict closedVerdict formVerdict valuesVerdict seriesVerdict eachSeries lastVerdict judge verdict table codeIn reasonCode statusCode replyTo
 orderOfChecks = 0
 
 -- "Marks and finals", and what an acceptance writes

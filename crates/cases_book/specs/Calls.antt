@@ -62,7 +62,7 @@ unfoldable pub ofCodes : List Case
 ofCodes =
     map reasonCode (30 ∷ 31 ∷ []) gives (42 ∷ 46 ∷ [])
     ∷ map reasonCode (18 ∷ 20 ∷ 21 ∷ 22 ∷ 23 ∷ 24 ∷ 25 ∷ 26 ∷ 32 ∷ []) gives replicate 9 0
-    ∷ map statusCode (0 ∷ 1 ∷ 16 ∷ []) gives (1 ∷ 2 ∷ 2 ∷ [])
+    ∷ map statusCode (0 ∷ 1 ∷ 2 ∷ 16 ∷ 17 ∷ []) gives (1 ∷ 0 ∷ 0 ∷ 2 ∷ 0 ∷ [])
     ∷ map (λ number. replyNumber (replyTo number)) (0 ∷ 1 ∷ 2 ∷ 3 ∷ 16 ∷ 17 ∷ []) gives (0 ∷ 2 ∷ 1 ∷ 0 ∷ 0 ∷ 2 ∷ [])
     ∷ map stateCode (1 ∷ 2 ∷ 3 ∷ []) gives (28 ∷ 0 ∷ 9 ∷ [])
     ∷ []

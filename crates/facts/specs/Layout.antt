@@ -13,7 +13,7 @@ use Rattle.laws.specs.Lists.{every, All}
 use Rattle.laws.specs.Lists.Laws.{all-append, every-all, all-every}
 use Rattle.laws.specs.Bytes.{part, written, value, little, number}
 use Rattle.laws.specs.Bytes.Laws.{part-length, part-none, part-part, part-add, all-part, written-length, part-written-before, part-written-after, part-written-same, little-length, value-little, number-part}
-use Rattle.paper.specs.Layout.{Bytes, Block, zeros, kind, nOf, lead, clock, dayOfBook, area, receiver, dayZeros, version, idOf, seriesCount, sender, dayOfMessage, nets, senderZeros, businessType, contractType, sendersSlot, inArea, outArea, inParty, outParty, pair, agreement, mark, state, first, partner, quantities, entry, quantity, aboveN, senderZerosInMessage, withClock, withSendersSlot, withMark, withNets}
+use Rattle.paper.specs.Layout.{Bytes, Block, zeros, kind, nOf, lead, clockPlus10080, dayOfBook, area, receiver, dayZeros, version, idOf, seriesCount, sender, dayOfMessage, nets, senderZeros, businessType, contractType, sendersSlot, inArea, outArea, inParty, outParty, pair, agreement, mark, state, first, partner, quantities, entry, quantity, aboveN, senderZerosInMessage, withClock, withSendersSlot, withMark, withNets, net}
 use Rattle.facts.specs.Check.{sealed-length, part-sealed}
 
 -- ---- lengths
@@ -85,8 +85,8 @@ pub nets-with-nets : (v : Bytes) (s : Block) → length v ≡ 400 → length s �
 unfolding nets withNets
 nets-with-nets v s h e = part-sealed 108 400 _ (omega arith) ∙ rw h at (part-written-same 108 v s (omega arith))
 
-pub clock-with-clock : (minute : ℕ) (d : Block) → minute < 65536 → length d ≡ 512 → clock (withClock minute d) ≡ minute
-unfolding clock number withClock
+pub clock-with-clock : (minute : ℕ) (d : Block) → minute < 65536 → length d ≡ 512 → clockPlus10080 (withClock minute d) ≡ minute
+unfolding clockPlus10080 number withClock
 clock-with-clock minute d h e = ap value (part-sealed 4 2 _ (omega arith) ∙ two-bytes 4 minute d (omega arith)) ∙ value-little 2 minute h
 
 -- ---- the other fields of a block with a sender's slot, a mark, nets
@@ -306,6 +306,11 @@ unfolding partner mark
 mark-partner x = sym (number-part 2 104 4 2 x (omega arith))
 
 -- ---- entry k of the bytes of all quantities is the quantity at position k + 1
+
+-- a net stands where a series has a quantity
+pub net-is-quantity : (s : Block) (k : ℕ) → net s k ≡ quantity s k
+unfolding net quantity
+net-is-quantity s k = refl
 
 pub entry-quantities : (x : Block) (k : ℕ) → k < 100 → entry (quantities x) k ≡ quantity x k
 unfolding entry quantities quantity

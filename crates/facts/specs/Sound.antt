@@ -12,12 +12,12 @@ use Rattle.laws.specs.Tests.Laws.{split, and-left, and-right, and-both, or-no, 
 use Rattle.laws.specs.Lists.{same, apart, All}
 use Rattle.laws.specs.Lists.Laws.{every-all, all-every, until-length}
 use Rattle.paper.specs.Check.{checkRight}
-use Rattle.paper.specs.Layout.{Bytes, Block, blocks, zeros, kind, nOf, lead, clock, dayOfBook, area, receiver, dayZeros, version, idOf, sender, dayOfMessage, senderZeros, businessType, contractType, sendersSlot, inArea, outArea, inParty, outParty, pair, agreement, state, first, partner}
-use Rattle.paper.specs.Ranges.{wholeBlocks, nAllowed, leadAllowed, clockAllowed, versionAllowed, quantityAllowed, netAllowed, entriesAllowed}
+use Rattle.paper.specs.Layout.{Bytes, Block, blocks, zeros, kind, nOf, lead, clockPlus10080, dayOfBook, area, receiver, dayZeros, version, idOf, sender, dayOfMessage, senderZeros, businessType, contractType, sendersSlot, inArea, outArea, inParty, outParty, pair, agreement, state, first, partner}
+use Rattle.paper.specs.Ranges.{wholeBlocks, nAllowed, leadAllowed, clockAllowed, versionAllowed, quantitiesAllowed, netsAllowed}
 use Rattle.paper.specs.Ids.{idWellFormed, dayWellFormed}
 use Rattle.paper.specs.Eic.{eicValid}
 use Rattle.paper.specs.Book.{dayBlock, slots, isFree, used, isSender, isSeries, numbered}
-use Rattle.paper.specs.Sound.{dayFields, daySound, usedFirst, countSound, senderFields, senderDay, senderSound, partiesOf, ownerSound, partnerSound, seriesFields, seriesCodes, seriesValues, seriesSound, usedSound, sameSender, sameSeries, sound}
+use Rattle.paper.specs.Sound.{dayFields, daySound, usedFirst, countSound, senderFields, senderDayAndNets, senderSound, partiesOf, ownerSound, partnerSound, seriesFields, seriesCodes, seriesValues, seriesSound, usedSound, sameSender, sameSeries, sound}
 use Rattle.facts.specs.Book.{series-not-sender, slots-length}
 
 -- ---- the book
@@ -87,7 +87,7 @@ pub record DaySound (d : Block) : Type 0 where
   pub n : nAllowed (nOf d) ≡ true
   pub n-most : nOf d ≤ 100
   pub lead-most : lead d ≤ 1440
-  pub clock-most : clock d ≤ 11580
+  pub clock-most : clockPlus10080 d ≤ 11580
   pub day-formed : dayWellFormed (dayOfBook d) ≡ true
   pub area-valid : eicValid (area d) ≡ true
   pub receiver-valid : eicValid (receiver d) ≡ true
@@ -147,11 +147,11 @@ pub record SenderSound (d : Block) (us : List Block) (s : Block) : Type 0 where
   pub no-more : senderZeros s ≡ true
   pub receiver-is : same (receiver s) (receiver d) ≡ true
   pub day-is : same (dayOfMessage s) (dayOfBook d) ≡ true
-  pub nets-allowed : entriesAllowed netAllowed (nOf d) s ≡ true
+  pub nets-allowed : netsAllowed (nOf d) s ≡ true
   pub count-right : countSound us s ≡ true
 
 pub sender-says : (d : Block) (us : List Block) (s : Block) → senderSound d us s ≡ true → SenderSound d us s
-unfolding senderSound senderFields senderDay
+unfolding senderSound senderFields senderDayAndNets
 sender-says d us s e =
     let f = and-left _ _ (and-left _ _ e) in
     let g = and-right _ _ (and-left _ _ e) in
@@ -184,7 +184,7 @@ pub record SeriesSound (d : Block) (us : List Block) (x : Block) : Type 0 where
   pub state-least : 1 ≤ state x
   pub state-most : state x ≤ 3
   pub first-most : first x ≤ nOf d
-  pub quantities-allowed : entriesAllowed quantityAllowed (nOf d) x ≡ true
+  pub quantities-allowed : quantitiesAllowed (nOf d) x ≡ true
   pub owner : isSender (numbered us (sendersSlot x)) ≡ true
   pub parties : partiesOf (sender (numbered us (sendersSlot x))) (pair x) ≡ true
   pub partner-right : (is (partner x) 0 or isSeries (numbered us (partner x))) ≡ true

@@ -4,7 +4,7 @@ ghost use Prim.Native.Nat.{_+_, _*_, _<_, _≤_};
 ghost use lib.ListN.{length};
 ghost use Rattle.laws.specs.Tests.{below};
 ghost use Rattle.paper.specs.Layout.{quantity};
-ghost use Rattle.paper.specs.Ranges.{quantityAllowed, netAllowed, entriesAllowed};
+ghost use Rattle.paper.specs.Ranges.{quantitiesAllowed, netsAllowed};
 ghost use Rattle.forms.specs.Entries.{entryAllowed};
 use super::ranges::net_allowed;
 use super::ranges::quantity_allowed;
@@ -77,14 +77,14 @@ fn entries_allowed(net: bool, n: usize, b: &[u8]) -> bool
 
 pub fn quantities_allowed(n: usize, b: &[u8]) -> bool
     requires { ⌜ n ≤ 100 ⌝ }
-    ensures { λ r. ⌜ r ≡ entriesAllowed quantityAllowed n (now (b .entry)) ⌝ }
+    ensures { λ r. ⌜ r ≡ quantitiesAllowed n (now (b .entry)) ⌝ }
 {
     entries_allowed(false, n, b) & all_zero(above_n(n, b))
 }
 
 pub fn nets_allowed(n: usize, b: &[u8]) -> bool
     requires { ⌜ n ≤ 100 ⌝ }
-    ensures { λ r. ⌜ r ≡ entriesAllowed netAllowed n (now (b .entry)) ⌝ }
+    ensures { λ r. ⌜ r ≡ netsAllowed n (now (b .entry)) ⌝ }
 {
     entries_allowed(true, n, b) & all_zero(above_n(n, b))
 }

@@ -2,7 +2,7 @@
 ghost use mathlib.Core.Path.{_≡_};
 ghost use Prim.Native.Nat.{_≤_};
 ghost use Rattle.paper.specs.Layout.{nOf};
-ghost use Rattle.paper.specs.Sound.{senderFields, senderDay};
+ghost use Rattle.paper.specs.Sound.{senderFields, senderDayAndNets};
 ghost use Rattle.eic.specs.Table.{IsTable};
 use super::entries::nets_allowed;
 use super::ranges::version_allowed;
@@ -31,7 +31,7 @@ pub fn sender_fields(table: &[u8; 256], d: &[u8], s: &[u8]) -> bool
 
 pub fn sender_day(d: &[u8], s: &[u8]) -> bool
     requires { ⌜ nOf (now d) ≤ 100 ⌝ }
-    ensures { λ r. ⌜ r ≡ senderDay (now (d .entry)) (now (s .entry)) ⌝ }
+    ensures { λ r. ⌜ r ≡ senderDayAndNets (now (d .entry)) (now (s .entry)) ⌝ }
 {
     same(receiver(s), receiver(d))
         & same(day_of_message(s), day_of_book(d))

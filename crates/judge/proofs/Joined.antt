@@ -5,57 +5,34 @@ use mathlib.Core.List.{List, [], _∷_}
 use Prim.Native.Nat.{ℕ, zero, suc, _+_, _/_, _≤_}
 use native.Mathlib.Omega.{arith}
 use lib.ListN.{length, take, getD}
-use Rattle.laws.specs.Tests.{_and_, _or_, neg, is, less, below}
-use Rattle.laws.specs.Tests.Laws.{split}
-use Rattle.laws.specs.Lists.{further, place, keep, count}
+use Rattle.laws.specs.Tests.{_and_, neg, is, less, below}
+use Rattle.laws.specs.Lists.{keep, count}
 use Rattle.paper.specs.declared.Verdict.{Verdict}
 use Rattle.laws.specs.Cut.{cut}
 use Rattle.laws.specs.Cut.Laws.{cut-length}
-use Rattle.paper.specs.Layout.{Bytes, Block, idOf, sender}
-use Rattle.paper.specs.Ids.{idWellFormed}
-use Rattle.paper.specs.Book.{isSender, numbered, isSenderBlockOf, slotOf, isSeriesOf, ownSender, ownSeries}
-use Rattle.paper.specs.Rules.{_then_, broken, rule3, rule4, rule5, versionBroken, rule6, isNew, newBlocks, rule16, rule17, eachSeries, judge}
+use Rattle.paper.specs.Layout.{Bytes, Block, sender}
+use Rattle.paper.specs.Book.{isSender, numbered, slotOf, isSeriesOf, ownSender, ownSeries}
+use Rattle.paper.specs.Rules.{_then_, broken, headVerdict, lastVerdict, eachSeries, judge}
 use Rattle.index.specs.Linked.{Found}
 use Rattle.judge.specs.Looked.{Taken, FoundIf}
-use Rattle.judge.proofs.Laws.{then-hit, then-pass, four}
-use Rattle.judge.proofs.Lasts.{numbered-further, absent-found, rule-17-found}
-
--- ---- the sender's stored block
-
-first-kept : (p : Block → Bool) (l : List Block) → numbered l (place p l) ≡ numbered (keep p l) 1
-unfolding numbered keep place
-first-kept p [] = refl
-first-kept p (x ∷ l) = split (p x) (λ t. rw t) (λ t. rw t (numbered-further x l (place p l) ∙ first-kept p l))
+use Rattle.judge.proofs.Laws.{then-hit, then-pass}
+use Rattle.judge.proofs.Lasts.{absent-found, rule-17-found}
 
 -- ---- the whole, by what the code finds: x the sender's stored block, us the used slots
 
-abbrev pub headVerdict : Block → Block → Block → Verdict
-headVerdict d x h = broken (rule3 d h) 3 0 0 then broken (rule4 h) 4 0 0 then broken (rule5 d h) 5 0 0 then broken (rule6 (x ∷ []) h) 6 0 0
-
-abbrev pub lastVerdict : ℕ → Block → List Block → List Block → Verdict
-lastVerdict free x own series = broken (rule16 own series) 16 0 0 then broken (rule17 free (x ∷ []) own series) 17 0 0
-
 module _ (d : Block) (us : List Block) (slot free : ℕ) (h : Block) (series : List Block) (x : Block) (e : slot ≡ slotOf us (sender h)) (q : x ≡ numbered us slot) where
-  stored : x ≡ numbered (ownSender us (sender h)) 1
-  unfolding ownSender slotOf
-  stored = q ∙ ap (numbered us) e ∙ first-kept (isSenderBlockOf (sender h)) us
-
-  rule-6 : rule6 (x ∷ []) h ≡ rule6 (ownSender us (sender h)) h
-  unfolding rule6 numbered
-  rule-6 = ap (λ b. neg (idWellFormed (idOf h)) or versionBroken b h) stored
-
-  rule-17 : (l : List Block) → rule17 free (x ∷ []) l series ≡ rule17 free (ownSender us (sender h)) l series
-  unfolding rule17 newBlocks numbered
-  rule-17 l = ap (λ b. less free (cond (isSender b) 0 1 + count (isNew l) series)) stored
+  stored : x ≡ ownSender us (sender h)
+  unfolding ownSender
+  stored = q ∙ ap (numbered us) e
 
   its : keep (isSeriesOf slot) us ≡ ownSeries us (sender h)
   unfolding ownSeries
   its = ap (λ k. keep (isSeriesOf k) us) e
 
-  judged : (headVerdict d x h then eachSeries d (keep (isSeriesOf slot) us) h [] 1 series then lastVerdict free x (keep (isSeriesOf slot) us) series)
+  judged : (headVerdict d x h then eachSeries d (keep (isSeriesOf slot) us) h [] 1 series then lastVerdict x (keep (isSeriesOf slot) us) free series)
       ≡ judge d (ownSender us (sender h)) (ownSeries us (sender h)) free h series
   unfolding judge
-  judged = rw (its, rule-6, rule-17 (ownSeries us (sender h))) (four _ _ _ _ _)
+  judged = rw (its, stored)
 
   pub judged-head : {v : Verdict} → v ≡ headVerdict d x h → (v .number ≡ 0 → ⊥) → v ≡ judge d (ownSender us (sender h)) (ownSeries us (sender h)) free h series
   judged-head a n = then-hit _ a n ∙ judged
@@ -65,7 +42,7 @@ module _ (d : Block) (us : List Block) (slot free : ℕ) (h : Block) (series : L
   judged-series a z b n = then-pass a z (then-hit _ b n) ∙ judged
 
   pub judged-last : {v w u : Verdict} → v ≡ headVerdict d x h → v .number ≡ 0 → w ≡ eachSeries d (keep (isSeriesOf slot) us) h [] 1 series → w .number ≡ 0
-      → u ≡ lastVerdict free x (keep (isSeriesOf slot) us) series → u ≡ judge d (ownSender us (sender h)) (ownSeries us (sender h)) free h series
+      → u ≡ lastVerdict x (keep (isSeriesOf slot) us) free series → u ≡ judge d (ownSender us (sender h)) (ownSeries us (sender h)) free h series
   judged-last a z b y f = then-pass a z (then-pass b y f) ∙ judged
 
 -- ---- rules 16 and 17, by places
@@ -74,7 +51,8 @@ pub last-by : (free slot : ℕ) (us series : Bytes) (x : Block) (places numbers 
     → Found slot false (cut 512 us) (cut 512 series) places → Found 0 false (cut 512 series) (cut 512 us) numbers
     → (broken (neg (below (λ i. neg (isSeriesOf slot (getD (cut 512 us) i []) and is (getD numbers i 0) 0)) (length us / 512))) 16 0 0
     then broken (less free (cond (isSender x) 0 1 + count (λ n. is n 0) (take (length series / 512) places))) 17 0 0)
-    ≡ lastVerdict free x (keep (isSeriesOf slot) (cut 512 us)) (cut 512 series)
+    ≡ lastVerdict x (keep (isSeriesOf slot) (cut 512 us)) free (cut 512 series)
+unfolding lastVerdict
 last-by free slot us series x places numbers k a b =
     let s : length (cut 512 series) ≤ 200 = k .short in
     ap₂ (λ t u. broken t 16 0 0 then broken u 17 0 0)

@@ -13,9 +13,9 @@ use Rattle.laws.specs.Lists.{same, further, place, has, keep, every, apart, All
 use Rattle.laws.specs.Lists.Laws.{all-imply, all-take, all-getD-inside, has-agree, every-all, same-yes, same-refl, has-keep-and}
 use Rattle.paper.specs.Layout.{Bytes, Block, idOf, pair}
 use Rattle.paper.specs.Ids.{idWellFormed}
-use Rattle.paper.specs.Book.{isSeriesOf, numbered}
+use Rattle.paper.specs.Book.{isSeriesOf, numbered, idIs, pairIs}
 use Rattle.paper.specs.Sound.{sameSeries}
-use Rattle.paper.specs.Rules.{_then_, broken, idIs, pairIs, withOtherPair, withOtherId, rule7, rule8, rule9, rule10, storedOf, formVerdict, valuesVerdict, seriesVerdict}
+use Rattle.paper.specs.Rules.{_then_, broken, withOtherPair, withOtherId, rule7, rule8, rule9, rule10, storedOf, formVerdict, valuesVerdict, seriesVerdict}
 use Rattle.facts.specs.Book.{series-of-series, series-of-slot}
 use Rattle.index.specs.Linked.{keyOf, ownWith, Found}
 use Rattle.judge.specs.Looked.{Taken, Looked, seriesBy}
@@ -160,5 +160,5 @@ module _ (us series : List Block) (slot : ℕ) (fi fp si sp : List ℕ) (k : Tak
       → seriesBy d hd x t s y ≡ seriesVerdict d (keep (isSeriesOf slot) us) hd (take i series) s y
   unfolding seriesBy seriesVerdict formVerdict storedOf
   series-by d hd x s e q =
-      rw (e, ← rule-7-by) (ap (λ b. (broken (rule7 (keep (isSeriesOf slot) us) (take i series) y) 7 s 0 then broken (rule8 hd y) 8 s 0 then broken (rule9 d y) 9 s 0 then broken (rule10 y) 10 s 0) then valuesVerdict d hd b s y)
+      rw (e, ← rule-7-by) (ap (λ b. (broken (rule7 (keep (isSeriesOf slot) us) (take i series) y) 7 s 0 then broken (rule8 hd y) 8 s 0 then broken (rule9 d y) 9 s 0 then broken (rule10 y) 10 s 0) then valuesVerdict d b hd s y)
       (q ∙ stored-block slot us y (getD sp i 0) (a .stored-pairs .each i h)))

@@ -34,7 +34,7 @@ pub record Looked (us series : List Block) (slot : ℕ) (firstIds firstPairs sto
 unfoldable pub seriesBy : Block → Block → Block → Bool → ℕ → Block → Verdict
 seriesBy d h x otherwise s y =
     (broken (neg (idWellFormed (idOf y)) or otherwise) 7 s 0 then broken (rule8 h y) 8 s 0 then broken (rule9 d y) 9 s 0 then broken (rule10 y) 10 s 0)
-    then valuesVerdict d h x s y
+    then valuesVerdict d x h s y
 
 -- of a message that passes: of each of its series the slot, and of each used slot the message's series with its pair
 pub record FoundIf (v : Verdict) (slot : ℕ) (us series : List Block) (places numbers : List ℕ) : Type 0 where

@@ -1,7 +1,7 @@
 // The order of checks: the first broken rule, with its series and its position.
 ghost use mathlib.Core.Path.{_≡_};
 ghost use mathlib.Core.Bool.{cond};
-ghost use mathlib.Core.List.{[], _∷_};
+ghost use mathlib.Core.List.{[]};
 ghost use Prim.Native.Nat.{_+_, _/_, _≤_};
 ghost use lib.ListN.{length, take, getD};
 ghost use Rattle.laws.specs.Tests.{_and_, neg, is, less, below};
@@ -9,7 +9,7 @@ ghost use Rattle.laws.specs.Lists.{count};
 ghost use Rattle.laws.specs.Cut.{cut};
 ghost use Rattle.paper.specs.Layout.{sender};
 ghost use Rattle.paper.specs.Book.{slotOf, isSender, isSeriesOf, ownSender, ownSeries};
-ghost use Rattle.paper.specs.Rules.{_then_, broken, rule3, rule4, rule5, rule6, judge, verdict};
+ghost use Rattle.paper.specs.Rules.{_then_, broken, headVerdict, judge, verdict};
 ghost use Rattle.eic.specs.Table.{IsTable};
 ghost use Rattle.judge.specs.Looked.{Taken, FoundIf, HandedIf};
 
@@ -43,7 +43,7 @@ use sound::sound;
 // Rules 3 to 6 cost little beside the series: all four are judged, and the first broken one is named.
 fn head_verdict(table: &[u8; 256], d: &[u8], stored: &[u8], h: &[u8]) -> Verdict
     requires { ⌜ IsTable (now table) ⌝ }
-    ensures { λ r. ⌜ r ≡ (broken (rule3 (now (d .entry)) (now (h .entry))) 3 0 0 then broken (rule4 (now (h .entry))) 4 0 0 then broken (rule5 (now (d .entry)) (now (h .entry))) 5 0 0 then broken (rule6 (now (stored .entry) ∷ []) (now (h .entry))) 6 0 0) ⌝ }
+    ensures { λ r. ⌜ r ≡ headVerdict (now (d .entry)) (now (stored .entry)) (now (h .entry)) ⌝ }
 {
     let r3 = broken(rule_3(d, h), 3, 0, 0);
     let r4 = broken(rule_4(table, h), 4, 0, 0);

@@ -54,7 +54,7 @@ fn form_verdict(
 
 // Rules 11 to 15: 11 to 13 over all positions, then 14 over all, then 15.
 fn values_verdict(d: &[u8], h: &[u8], x: &[u8], s: usize, y: &[u8]) -> Verdict
-    ensures { λ r. ⌜ r ≡ valuesVerdict (now (d .entry)) (now (h .entry)) (now (x .entry)) s (now (y .entry)) ⌝ }
+    ensures { λ r. ⌜ r ≡ valuesVerdict (now (d .entry)) (now (x .entry)) (now (h .entry)) s (now (y .entry)) ⌝ }
 {
     let quantities = quantity_verdict(n_of(d) as usize, s, y);
     let closed = closed_verdict(d, x, s, y);

@@ -2,7 +2,7 @@
 // shorter too, and a number read of it counts the missing bytes as 0, as the definitions have it.
 ghost use mathlib.Core.Path.{_≡_};
 ghost use Prim.Native.Nat.{_<_, _≤_};
-ghost use Rattle.paper.specs.Layout.{kind, nOf, lead, clock, dayOfBook, area, receiver, version, idOf, seriesCount, sender, dayOfMessage, nets, businessType, contractType, sendersSlot, inArea, outArea, inParty, outParty, pair, agreement, mark, state, first, partner, quantities, quantity, aboveN, dayZeros, senderZeros, senderZerosInMessage, seriesZerosInMessage};
+ghost use Rattle.paper.specs.Layout.{kind, nOf, lead, clockPlus10080, dayOfBook, area, receiver, version, idOf, seriesCount, sender, dayOfMessage, nets, businessType, contractType, sendersSlot, inArea, outArea, inParty, outParty, pair, agreement, mark, state, first, partner, quantities, quantity, aboveN, dayZeros, senderZeros, senderZerosInMessage, seriesZerosInMessage};
 use block::numbers::byte_or_zero;
 use block::numbers::number_2;
 use block::numbers::number_4;
@@ -32,7 +32,7 @@ pub fn lead(b: &[u8]) -> u16
 
 // The clock as it is kept, 10,080 above the clock.
 pub fn clock(b: &[u8]) -> Minute
-    ensures { λ r. ⌜ r .0 ≡ clock (now (b .entry)) ⌝ }
+    ensures { λ r. ⌜ r .0 ≡ clockPlus10080 (now (b .entry)) ⌝ }
 {
     Minute(number_2(b, 4))
 }

@@ -7,8 +7,7 @@ use Rattle.laws.specs.Lists.{same}
 use Rattle.laws.specs.Lists.Laws.{same-yes, has-no-find, place-none, place-find}
 use Rattle.laws.specs.Bytes.{little}
 use Rattle.paper.specs.Layout.{Bytes, Block, quantities, entry, quantity}
-use Rattle.paper.specs.Book.{numbered}
-use Rattle.paper.specs.Rules.{pairIs}
+use Rattle.paper.specs.Book.{numbered, pairIs}
 use Rattle.paper.specs.Marks.{isCounterpart, counterpart, counterpartSlot, differenceFrom, firstDifference, markOf, markIn}
 use Rattle.facts.specs.Layout.{entry-quantities}
 use Rattle.index.specs.Linked.{bucket, seriesIn}

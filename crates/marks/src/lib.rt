@@ -5,7 +5,7 @@ ghost use Prim.Native.Nat.{_/_, _≤_};
 ghost use lib.ListN.{length};
 ghost use Rattle.laws.specs.Cut.{cut};
 ghost use Rattle.paper.specs.Layout.{quantities};
-ghost use Rattle.paper.specs.Rules.{pairIs};
+ghost use Rattle.paper.specs.Book.{pairIs};
 ghost use Rattle.paper.specs.Marks.{isCounterpart, counterpartSlot, firstDifference, markIn};
 ghost use Rattle.paper.specs.PlainRun.{markTrue};
 ghost use Rattle.index.specs.Linked.{seriesIn, Links};

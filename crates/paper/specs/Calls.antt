@@ -20,13 +20,15 @@ pub record Desk : Type 0 where
   pub book : Bytes
   pub messages : List Bytes
 
-unfoldable pub step : Desk → Call → Desk
-step k (opening o) = record { book = opened (k .book) o; messages = cond (is (openNumber (k .book) o) 0) [] (k .messages) }
-step k (clockMove minute) = record { book = clockMoved (k .book) minute; messages = k .messages }
-step k (submission m) =
-    record { book = submitted (k .book) m; messages = cond (is (numberOf (verdict (k .book) m)) 0) (k .messages ++ m ∷ []) (k .messages) }
-step k reading = k
+-- one call: an accepted opening begins the list anew, an accepted message is added to it
+unfoldable pub step : (before : Desk) (call : Call) → Desk
+step before (opening o) = record { book = opened (before .book) o; messages = cond (is (openNumber (before .book) o) 0) [] (before .messages) }
+step before (clockMove minute) = record { book = clockMoved (before .book) minute; messages = before .messages }
+step before (submission message) =
+    record { book = submitted (before .book) message; messages = cond (is (numberOf (verdict (before .book) message)) 0) (before .messages ++ message ∷ []) (before .messages) }
+step before reading = before
 
-unfoldable pub run : Desk → List Call → Desk
-run k [] = k
-run k (c ∷ cs) = run (step k c) cs
+-- calls one after another
+unfoldable pub run : (before : Desk) (calls : List Call) → Desk
+run before [] = before
+run before (call ∷ calls) = run (step before call) calls

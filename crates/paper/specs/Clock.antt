@@ -1,5 +1,5 @@
--- "Other calls": the clock, which hands back the day's state beside its answer.
-use mathlib.Core.Bool.{Bool, cond}
+-- "Other calls": the clock, which hands back the day's state beside its answer. A minute is counted from −10,080.
+use mathlib.Core.Bool.{cond}
 use mathlib.Core.List.{_++_}
 use Prim.Native.Nat.{ℕ}
 use lib.ListN.{drop}
@@ -7,29 +7,29 @@ use Rattle.laws.specs.Tests.{_or_, neg, is, less}
 use Rattle.paper.specs.declared.Minute.{Minute}
 use Rattle.paper.specs.declared.DayState.{DayState}
 use Rattle.paper.specs.declared.ClockAnswer.{ClockAnswer}
-use Rattle.paper.specs.Layout.{Bytes, Block, nOf, lead, clock, withClock}
+use Rattle.paper.specs.Layout.{Bytes, Block, nOf, lead, clockPlus10080, withClock}
 use Rattle.paper.specs.Ranges.{clockAllowed}
 use Rattle.paper.specs.Book.{dayBlock}
 use Rattle.paper.specs.Sound.{sound}
 
-abbrev pub stateOf : ℕ → ℕ → ℕ → DayState
+abbrev pub stateOf : (n : ℕ) (lead : ℕ) (minute : ℕ) → DayState
 stateOf n lead minute = record { n = n; lead = lead; clock = record { 0 = minute } }
 
--- n, lead and clock as kept in the day block d
-unfoldable pub dayState : Block → DayState
-dayState d = stateOf (nOf d) (lead d) (clock d)
+-- "n, lead and clock as then kept"
+unfoldable pub dayState : (day : Block) → DayState
+dayState day = stateOf (nOf day) (lead day) (clockPlus10080 day)
 
--- the day's state moved to a minute: 22 if lower than the kept clock or out of range; equal is accepted
-unfoldable pub advanced : DayState → ℕ → ClockAnswer
-advanced day minute =
-    cond (less minute (day .clock .0) or neg (clockAllowed minute))
-    (record { number = 22; state = day })
-    (record { number = 0; state = stateOf (day .n) (day .lead) minute })
+-- the day's state moved to a minute: "22 if lower than the kept clock or out of range; equal is accepted"
+unfoldable pub advanced : (state : DayState) (minute : ℕ) → ClockAnswer
+advanced state minute =
+    cond (less minute (state .clock .0) or neg (clockAllowed minute))
+    (record { number = 22; state = state })
+    (record { number = 0; state = stateOf (state .n) (state .lead) minute })
 
--- 1, then 22; the state as then kept, zeros on 1
-unfoldable pub clockAnswer : Bytes → ℕ → ClockAnswer
+-- 1, then 22; the state as then kept, "zeros on 1"
+unfoldable pub clockAnswer : (book : Bytes) (minute : ℕ) → ClockAnswer
 clockAnswer book minute = cond (sound book) (advanced (dayState (dayBlock book)) minute) (record { number = 1; state = stateOf 0 0 0 })
 
 -- the book after it
-unfoldable pub clockMoved : Bytes → ℕ → Bytes
+unfoldable pub clockMoved : (book : Bytes) (minute : ℕ) → Bytes
 clockMoved book minute = cond (is ((clockAnswer book minute) .number) 0) (withClock minute (dayBlock book) ++ drop 512 book) book

@@ -8,7 +8,7 @@ pub record Row : Type 0 where
   pub number : ℕ
   pub code : ℕ
 
-abbrev row : ℕ → ℕ → Row
+abbrev row : (number : ℕ) (code : ℕ) → Row
 row number code = record { number = number; code = code }
 
 -- 0 is the acceptance, 30 and 31 are refusals of quantity text
@@ -33,16 +33,16 @@ table =
     ∷ row 31 46
     ∷ []
 
-unfoldable pub codeIn : List Row → ℕ → ℕ
+unfoldable pub codeIn : (rows : List Row) (number : ℕ) → ℕ
 codeIn [] number = 0
-codeIn (r ∷ rs) number = cond (is (r .number) number) (r .code) (codeIn rs number)
+codeIn (r ∷ rows) number = cond (is (r .number) number) (r .code) (codeIn rows number)
 
-unfoldable pub reasonCode : ℕ → ℕ
+unfoldable pub reasonCode : (number : ℕ) → ℕ
 reasonCode number = codeIn table number
 
--- A01 beside an acceptance, A02 beside a refusal
-unfoldable pub statusCode : ℕ → ℕ
-statusCode number = cond (is number 0) 1 2
+-- A01 beside an acceptance; "Refusals carry A02 beside their code": 0 where there is no code
+unfoldable pub statusCode : (number : ℕ) → ℕ
+statusCode number = cond (is number 0) 1 (cond (is (reasonCode number) 0) 0 2)
 
 -- how a submission is answered: an acknowledgement, 000's uninterpretable-message mail, or a desk notice
 pub data Reply : Type 0 where
@@ -50,5 +50,6 @@ pub data Reply : Type 0 where
   uninterpretableMessage : Reply
   deskNotice : Reply
 
-unfoldable pub replyTo : ℕ → Reply
+-- "where there is no code the reply is 000's uninterpretable-message mail, or for 1 and 17 a desk notice"
+unfoldable pub replyTo : (number : ℕ) → Reply
 replyTo number = cond (is number 1 or is number 17) deskNotice (cond (is number 2) uninterpretableMessage acknowledgement)

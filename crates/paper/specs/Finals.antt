@@ -1,4 +1,4 @@
--- "Final value of (out party, in party, position)".
+-- "Final value of (out party, in party, position)". The seller is the out party, the buyer the in party.
 use mathlib.Core.Bool.{Bool, true, false, cond}
 use mathlib.Core.Option.{Option, none, some, Option·map, Option·getD}
 use mathlib.Core.List.{List, [], _++_}
@@ -7,38 +7,37 @@ use Rattle.laws.specs.Tests.{_or_, neg, is, less}
 use Rattle.laws.specs.Lists.{find}
 use Rattle.paper.specs.declared.FinalAnswer.{FinalAnswer}
 use Rattle.paper.specs.Layout.{Bytes, Block, nOf, quantities, entry}
-use Rattle.paper.specs.Book.{dayBlock, used, slotOf}
+use Rattle.paper.specs.Book.{dayBlock, used, slotOf, isSeriesOfPair}
 use Rattle.paper.specs.Sound.{sound}
 use Rattle.paper.specs.Rules.{closed}
-use Rattle.paper.specs.Acceptance.{isSeriesOfPair}
 
--- the seller's quantity: 000 leaves the choice of side to market rules; this is ours, and the one place that chooses
-unfoldable pub finalOf : ℕ → ℕ → ℕ
+-- "the seller's quantity": 000 leaves the choice of side to market rules; this is ours, and the one place that chooses
+unfoldable pub finalOf : (sellers : ℕ) (buyers : ℕ) → ℕ
 finalOf sellers buyers = sellers
 
 -- the quantities that party e has under a pair
-unfoldable pub held : List Block → Bytes → Bytes → Option Bytes
-held us e p = Option·map quantities (find (isSeriesOfPair (slotOf us e) p) us)
+unfoldable pub held : (us : List Block) (e : Bytes) (parties : Bytes) → Option Bytes
+held us e parties = Option·map quantities (find (isSeriesOfPair (slotOf us e) parties) us)
 
 unfoldable pub isHeld : Option Bytes → Bool
 isHeld none = false
-isHeld (some q) = true
+isHeld (some quantities) = true
 
--- the quantity at position k + 1, a missing series counting 0
-unfoldable pub heldAt : Option Bytes → ℕ → ℕ
-heldAt o k = entry (Option·getD o []) k
+-- the quantity at position k + 1, "a missing seller series counting 0"
+unfoldable pub heldAt : (found : Option Bytes) (k : ℕ) → ℕ
+heldAt found k = entry (Option·getD found []) k
 
-abbrev pub finalRefused : ℕ → FinalAnswer
+abbrev pub finalRefused : (number : ℕ) → FinalAnswer
 finalRefused number = record { number = number; kilowatts = 0 }
 
--- 24 position 0 or above n, 25 not closed, 26 neither party has that pair
-unfoldable pub finalIn : Block → List Block → Bytes → Bytes → ℕ → FinalAnswer
-finalIn d us seller buyer p =
-    cond (is p 0 or less (nOf d) p) (finalRefused 24)
-    (cond (neg (closed d p)) (finalRefused 25)
+-- "24 position 0 or above n, 25 not closed, 26 neither party has that pair"
+unfoldable pub finalIn : (day : Block) (us : List Block) (seller : Bytes) (buyer : Bytes) (position : ℕ) → FinalAnswer
+finalIn day us seller buyer position =
+    cond (is position 0 or less (nOf day) position) (finalRefused 24)
+    (cond (neg (closed day position)) (finalRefused 25)
     (cond (neg (isHeld (held us seller (buyer ++ seller)) or isHeld (held us buyer (buyer ++ seller)))) (finalRefused 26)
-    (record { number = 0; kilowatts = finalOf (heldAt (held us seller (buyer ++ seller)) (p - 1)) (heldAt (held us buyer (buyer ++ seller)) (p - 1)) })))
+    (record { number = 0; kilowatts = finalOf (heldAt (held us seller (buyer ++ seller)) (position - 1)) (heldAt (held us buyer (buyer ++ seller)) (position - 1)) })))
 
--- 1, then these; the seller is the out party, the buyer the in party
-unfoldable pub final : Bytes → Bytes → Bytes → ℕ → FinalAnswer
-final book seller buyer p = cond (sound book) (finalIn (dayBlock book) (used book) seller buyer p) (finalRefused 1)
+-- 1, then these
+unfoldable pub final : (book : Bytes) (seller : Bytes) (buyer : Bytes) (position : ℕ) → FinalAnswer
+final book seller buyer position = cond (sound book) (finalIn (dayBlock book) (used book) seller buyer position) (finalRefused 1)

@@ -8,26 +8,28 @@ use Rattle.paper.specs.Layout.{Bytes, zeros}
 
 -- 0–9
 unfoldable pub digit : ℕ → Bool
-digit x = upto 48 x and upto x 57
+digit byte = upto 48 byte and upto byte 57
 
 -- A–Z
 unfoldable pub letter : ℕ → Bool
-letter x = upto 65 x and upto x 90
+letter byte = upto 65 byte and upto byte 90
 
 unfoldable pub hyphen : ℕ → Bool
-hyphen x = is x 45
+hyphen byte = is byte 45
 
+-- "A–Z, 0–9 and hyphen"
 unfoldable pub idCharacter : ℕ → Bool
-idCharacter x = letter x or digit x or hyphen x
+idCharacter byte = letter byte or digit byte or hyphen byte
 
 -- an id without its zero bytes
-unfoldable pub idText : Bytes → Bytes
-idText f = until (λ x. is x 0) f
+unfoldable pub idText : (field : Bytes) → Bytes
+idText field = until (λ byte. is byte 0) field
 
--- 1 to 16 characters, then zero bytes, in a field of sixteen
-unfoldable pub idWellFormed : Bytes → Bool
-idWellFormed f = is (length f) 16 and upto 1 (length (idText f)) and every idCharacter (idText f) and zeros (drop (length (idText f)) f)
+-- "An id is 1 to 16 of A–Z, 0–9 and hyphen, then zero bytes", in a field of sixteen
+unfoldable pub idWellFormed : (field : Bytes) → Bool
+idWellFormed field =
+    is (length field) 16 and upto 1 (length (idText field)) and every idCharacter (idText field) and zeros (drop (length (idText field)) field)
 
--- eight digits
-unfoldable pub dayWellFormed : Bytes → Bool
-dayWellFormed f = is (length f) 8 and every digit f
+-- "Day: eight digits"
+unfoldable pub dayWellFormed : (field : Bytes) → Bool
+dayWellFormed field = is (length field) 8 and every digit field

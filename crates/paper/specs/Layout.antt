@@ -1,6 +1,7 @@
 -- "Blocks": the layout. With Check, the only file that reads or writes a field by its offset; Opening lays out the day block in this order.
+-- A day block is called day, a sender block s, a series block x, a block of any kind b.
 use mathlib.Core.Bool.{Bool}
-use mathlib.Core.List.{List, map}
+use mathlib.Core.List.{List}
 use Prim.Native.Nat.{ℕ, _+_, _-_, _*_}
 use Rattle.laws.specs.Tests.{_and_, is}
 use Rattle.laws.specs.Lists.{every}
@@ -16,10 +17,11 @@ Block = List ℕ
 
 -- the whole blocks of some bytes
 abbrev pub blocks : Bytes → List Block
-blocks b = cut 512 b
+blocks bytes = cut 512 bytes
 
+-- every byte is 0
 unfoldable pub zeros : Bytes → Bool
-zeros b = every (λ x. is x 0) b
+zeros bytes = every (λ byte. is byte 0) bytes
 
 -- ---- every kind
 
@@ -32,24 +34,25 @@ nOf b = number 1 1 b
 -- ---- the day block
 
 unfoldable pub lead : Block → ℕ
-lead d = number 2 2 d
+lead day = number 2 2 day
 
--- the clock + 10,080
-unfoldable pub clock : Block → ℕ
-clock d = number 2 4 d
+-- the clock is kept 10,080 above its value
+unfoldable pub clockPlus10080 : Block → ℕ
+clockPlus10080 day = number 2 4 day
 
 unfoldable pub dayOfBook : Block → Bytes
-dayOfBook d = part 8 8 d
+dayOfBook day = part 8 8 day
 
 unfoldable pub area : Block → Bytes
-area d = part 24 16 d
+area day = part 24 16 day
 
+-- of a day block and of a sender block: the same place in both
 unfoldable pub receiver : Block → Bytes
 receiver b = part 40 16 b
 
 -- the bytes shown as 0
 unfoldable pub dayZeros : Block → Bool
-dayZeros d = zeros (part 6 2 d) and zeros (part 16 8 d) and zeros (part 56 452 d)
+dayZeros day = zeros (part 6 2 day) and zeros (part 16 8 day) and zeros (part 56 452 day)
 
 -- ---- sender and series blocks
 
@@ -61,7 +64,7 @@ version b = number 2 2 b
 unfoldable pub idOf : Block → Bytes
 idOf b = part 8 16 b
 
--- ---- a sender block (its receiver stands where the day block's does)
+-- ---- a sender block
 
 unfoldable pub seriesCount : Block → ℕ
 seriesCount s = number 2 4 s
@@ -72,8 +75,13 @@ sender s = part 24 16 s
 unfoldable pub dayOfMessage : Block → Bytes
 dayOfMessage s = part 56 8 s
 
+-- the bytes of all hundred nets
 unfoldable pub nets : Block → Bytes
 nets s = part 108 400 s
+
+-- the net at position k + 1, as the remainder by 4,294,967,296
+unfoldable pub net : (s : Block) (k : ℕ) → ℕ
+net s k = number 4 (108 + 4 * k) s
 
 -- the bytes shown as 0, nets apart
 unfoldable pub senderZeros : Block → Bool
@@ -126,17 +134,17 @@ partner x = number 2 106 x
 unfoldable pub quantities : Block → Bytes
 quantities x = part 108 400 x
 
--- number k, counted from 0, among the bytes of a hundred quantities or nets
-unfoldable pub entry : Bytes → ℕ → ℕ
-entry q k = number 4 (4 * k) q
-
--- the quantity, or the net, at position k + 1
-unfoldable pub quantity : Block → ℕ → ℕ
+-- the quantity at position k + 1, in kilowatts
+unfoldable pub quantity : (x : Block) (k : ℕ) → ℕ
 quantity x k = number 4 (108 + 4 * k) x
 
--- the bytes of the positions above n
-unfoldable pub aboveN : ℕ → Block → Bytes
-aboveN n x = part (108 + 4 * n) (400 - 4 * n) x
+-- the same, of the bytes of a hundred quantities alone
+unfoldable pub entry : (quantities : Bytes) (k : ℕ) → ℕ
+entry quantities k = number 4 (4 * k) quantities
+
+-- the bytes of the quantities, or of the nets, at the positions above n
+unfoldable pub aboveN : (n : ℕ) (b : Block) → Bytes
+aboveN n b = part (108 + 4 * n) (400 - 4 * n) b
 
 -- ---- "0 in a message": the bytes of a message's blocks that must be 0, capacity fields and quantities excepted
 
@@ -148,15 +156,16 @@ seriesZerosInMessage x = zeros (part 6 2 x) and zeros (part 104 4 x)
 
 -- ---- fields written
 
-unfoldable pub withClock : ℕ → Block → Block
-withClock minute d = sealed (written 4 (little 2 minute) d)
+-- the check is put right with the clock
+unfoldable pub withClock : (minute : ℕ) (day : Block) → Block
+withClock minute day = sealed (written 4 (little 2 minute) day)
 
 -- the check is put right with the mark
-unfoldable pub withSendersSlot : ℕ → Block → Block
+unfoldable pub withSendersSlot : (slot : ℕ) (x : Block) → Block
 withSendersSlot slot x = written 6 (little 2 slot) x
 
-unfoldable pub withMark : Bytes → Block → Block
-withMark m x = sealed (written 104 m x)
+unfoldable pub withMark : (mark : Bytes) (x : Block) → Block
+withMark mark x = sealed (written 104 mark x)
 
-unfoldable pub withNets : Bytes → Block → Block
-withNets v s = sealed (written 108 v s)
+unfoldable pub withNets : (nets : Bytes) (s : Block) → Block
+withNets nets s = sealed (written 108 nets s)

@@ -11,8 +11,8 @@ pub mod Book
 pub mod Sound
 -- Submission: order of checks
 pub mod Message
-pub mod Rules
 pub mod Codes
+pub mod Rules
 -- Marks and finals; what an acceptance writes
 pub mod Marks
 pub mod Nets

@@ -1,7 +1,7 @@
 -- The listing's text: a header, then one line per series by ascending slot, with the kept marks.
 use Prim.Native.Char.{code}
 use Prim.Native.String.{String, [] as empty, _∷_ as _before_}
-use mathlib.Core.Bool.{Bool, cond}
+use mathlib.Core.Bool.{cond}
 use mathlib.Core.List.{List, [], _∷_, _++_}
 use Prim.Native.Nat.{ℕ, _+_}
 use lib.ListN.{length}
@@ -15,16 +15,16 @@ use Rattle.paper.specs.QuantityText.{decimal}
 -- the bytes of a text
 unfoldable pub text : String → Bytes
 text empty = []
-text (c before s) = code c ∷ text s
+text (character before rest) = code character ∷ text rest
 
--- words with a space between each two, ended by a newline
-unfoldable pub line : List Bytes → Bytes
+-- "Single spaces" between words, "each line ended by a newline"
+unfoldable pub line : (words : List Bytes) → Bytes
 line [] = 10 ∷ []
-line (w ∷ []) = w ++ 10 ∷ []
-line (w ∷ v ∷ ws) = w ++ 32 ∷ line (v ∷ ws)
+line (word ∷ []) = word ++ 10 ∷ []
+line (word ∷ next ∷ words) = word ++ 32 ∷ line (next ∷ words)
 
--- slot, sender, id, in party, out party, state, first, partner
-unfoldable pub seriesLine : List Block → ℕ → Block → Bytes
+-- "slot, sender, id, in party, out party, state, first, partner"
+unfoldable pub seriesLine : (us : List Block) (slot : ℕ) (x : Block) → Bytes
 seriesLine us slot x =
     line
     (decimal slot
@@ -37,14 +37,14 @@ seriesLine us slot x =
     ∷ decimal (partner x)
     ∷ [])
 
--- the lines of the series among the slots l, the first of which is number slot
-unfoldable pub seriesLines : List Block → ℕ → List Block → Bytes
+-- "one line per series by ascending slot": of the slots from one on
+unfoldable pub seriesLines : (us : List Block) (slot : ℕ) (from : List Block) → Bytes
 seriesLines us slot [] = []
-seriesLines us slot (b ∷ bs) = cond (isSeries b) (seriesLine us slot b) [] ++ seriesLines us (slot + 1) bs
+seriesLines us slot (b ∷ from) = cond (isSeries b) (seriesLine us slot b) [] ++ seriesLines us (slot + 1) from
 
 unfoldable pub header : Bytes
 header = text "slot sender series in out state first partner\n"
 
--- a book of at most 64 blocks; "too long" or "not sound" otherwise
-unfoldable pub listing : Bytes → Bytes
+-- "a book of at most 64 blocks"; "too long" or "not sound" otherwise
+unfoldable pub listing : (book : Bytes) → Bytes
 listing book = cond (less 32768 (length book)) (text "too long\n") (cond (sound book) (header ++ seriesLines (used book) 1 (used book)) (text "not sound\n"))

@@ -1,4 +1,4 @@
--- "Marks and finals": the mark of a series, over the used slots us.
+-- "Marks and finals": the mark of a series x, over the used slots us.
 use mathlib.Core.Bool.{Bool, cond}
 use mathlib.Core.Option.{Option, none, some, Option·map}
 use mathlib.Core.List.{List, [], _∷_}
@@ -7,36 +7,36 @@ use Rattle.laws.specs.Tests.{_and_, neg, is}
 use Rattle.laws.specs.Lists.{find, place}
 use Rattle.laws.specs.Bytes.{little}
 use Rattle.paper.specs.Layout.{Bytes, Block, sendersSlot, pair, quantities, entry}
-use Rattle.paper.specs.Book.{isSeries}
-use Rattle.paper.specs.Rules.{pairIs}
+use Rattle.paper.specs.Book.{isSeries, pairIs}
 
--- y is the counterpart of a series with this pair of the sender in this slot: the other party's series with the same in and out party.
--- Each series' sender is one of its two parties, so another sender with the pair is the other party.
-unfoldable pub isCounterpart : ℕ → Bytes → Block → Bool
-isCounterpart slot p y = isSeries y and neg (is (sendersSlot y) slot) and pairIs p y
+-- b is the counterpart of a series with this pair of the sender in this slot: "the other party's series with the same in and out party".
+-- Each series' sender is one of its two parties, so another sender with the pair is the other party
+unfoldable pub isCounterpart : (slot : ℕ) (parties : Bytes) (b : Block) → Bool
+isCounterpart slot parties b = isSeries b and neg (is (sendersSlot b) slot) and pairIs parties b
 
-unfoldable pub counterpart : List Block → Block → Option Block
+unfoldable pub counterpart : (us : List Block) (x : Block) → Option Block
 counterpart us x = find (isCounterpart (sendersSlot x) (pair x)) us
 
-unfoldable pub counterpartSlot : List Block → Block → ℕ
+unfoldable pub counterpartSlot : (us : List Block) (x : Block) → ℕ
 counterpartSlot us x = place (isCounterpart (sendersSlot x) (pair x)) us
 
--- the lowest position, of f of them from k + 1 on, at which two lists of quantities differ; 0 where they agree
-unfoldable pub differenceFrom : ℕ → ℕ → Bytes → Bytes → ℕ
-differenceFrom zero k a b = 0
-differenceFrom (suc f) k a b = cond (is (entry a k) (entry b k)) (differenceFrom f (k + 1) a b) (k + 1)
+-- the lowest position, of as many as left says from k + 1 on, at which two lists of quantities differ; 0 where they agree
+unfoldable pub differenceFrom : (left : ℕ) (k : ℕ) (ours : Bytes) (theirs : Bytes) → ℕ
+differenceFrom zero k ours theirs = 0
+differenceFrom (suc left) k ours theirs = cond (is (entry ours k) (entry theirs k)) (differenceFrom left (k + 1) ours theirs) (k + 1)
 
-unfoldable pub firstDifference : ℕ → Bytes → Bytes → ℕ
-firstDifference n a b = differenceFrom n 0 a b
+unfoldable pub firstDifference : (n : ℕ) (ours : Bytes) (theirs : Bytes) → ℕ
+firstDifference n ours theirs = differenceFrom n 0 ours theirs
 
--- state, first and partner of a series with quantities a, whose counterpart has quantities b and stands in a slot
-unfoldable pub markOf : ℕ → Bytes → Option Bytes → ℕ → Bytes
-markOf n a none slot = 1 ∷ 0 ∷ 0 ∷ 0 ∷ []
-markOf n a (some b) slot = cond (is (firstDifference n a b) 0) 2 3 ∷ firstDifference n a b ∷ little 2 slot
+-- state, first and partner of a series with quantities ours, whose counterpart has quantities theirs and stands in a slot. "State 1: none …,
+-- first 0, partner 0. State 2: all n agree, first 0. State 3: they differ …; first is the lowest such position"
+unfoldable pub markOf : (n : ℕ) (ours : Bytes) (theirs : Option Bytes) (slot : ℕ) → Bytes
+markOf n ours none slot = 1 ∷ 0 ∷ 0 ∷ 0 ∷ []
+markOf n ours (some theirs) slot = cond (is (firstDifference n ours theirs) 0) 2 3 ∷ firstDifference n ours theirs ∷ little 2 slot
 
-unfoldable pub markIn : ℕ → List Block → Block → Bytes
+unfoldable pub markIn : (n : ℕ) (us : List Block) (x : Block) → Bytes
 markIn n us x = markOf n (quantities x) (Option·map quantities (counterpart us x)) (counterpartSlot us x)
 
 -- the code of a state: A28 alone, A09 where they differ; 0 where it has none
-unfoldable pub stateCode : ℕ → ℕ
+unfoldable pub stateCode : (state : ℕ) → ℕ
 stateCode state = cond (is state 1) 28 (cond (is state 3) 9 0)

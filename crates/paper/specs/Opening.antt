@@ -1,6 +1,6 @@
 -- "Other calls": open.
 use mathlib.Core.Bool.{Bool, cond}
-use mathlib.Core.List.{List, _∷_, _++_}
+use mathlib.Core.List.{_∷_, _++_}
 use Prim.Native.Nat.{ℕ, _-_}
 use lib.ListN.{length, replicate}
 use Rattle.laws.specs.Tests.{_and_, neg, is}
@@ -18,18 +18,18 @@ pub record Opening : Type 0 where
   pub area : Bytes
   pub receiver : Bytes
 
--- the day block of the layout's table, with clock −10,080
-unfoldable pub dayBlockOf : Opening → Block
+-- the day block of the layout's table, "with clock −10,080"
+unfoldable pub dayBlockOf : (o : Opening) → Block
 dayBlockOf o = sealed (3 ∷ o .n ∷ little 2 (o .lead) ++ little 2 0 ++ little 2 0 ++ o .day ++ replicate 8 0 ++ o .area ++ o .receiver ++ replicate 456 0)
 
 -- parameters that a sound day block holds. Lengths and lead are judged first: a block would hold a lead only by its remainder
-unfoldable pub openingAllowed : Opening → Bool
+unfoldable pub openingAllowed : (o : Opening) → Bool
 openingAllowed o = is (length (o .day)) 8 and is (length (o .area)) 16 and is (length (o .receiver)) 16 and leadAllowed (o .lead) and daySound (dayBlockOf o)
 
--- 20 length, 21 a parameter no sound day block holds
-unfoldable pub openNumber : Bytes → Opening → ℕ
+-- "20 length, 21 a parameter no sound day block holds"
+unfoldable pub openNumber : (book : Bytes) (o : Opening) → ℕ
 openNumber book o = cond (neg (wholeBlocks 2 1001 book)) 20 (cond (neg (openingAllowed o)) 21 0)
 
--- success writes the day block and zeroes all slots
-unfoldable pub opened : Bytes → Opening → Bytes
+-- "success writes the day block … and zeroes all slots"
+unfoldable pub opened : (book : Bytes) (o : Opening) → Bytes
 opened book o = cond (is (openNumber book o) 0) (dayBlockOf o ++ replicate (length book - 512) 0) book

@@ -11,13 +11,16 @@ use Rattle.paper.specs.Sound.{sound}
 use Rattle.paper.specs.Marks.{markIn}
 use Rattle.paper.specs.Nets.{netsOf}
 
-unfoldable pub markTrue : ℕ → List Block → Block → Bool
-markTrue n us x = neg (isSeries x) or same (mark x) (markIn n us x)
+-- of a block that is a series
+unfoldable pub markTrue : (n : ℕ) (us : List Block) (b : Block) → Bool
+markTrue n us b = neg (isSeries b) or same (mark b) (markIn n us b)
 
-unfoldable pub netsTrue : List Block → Block → Bool
-netsTrue us s = neg (isSender s) or same (nets s) (netsOf (sender s) (ownSeries us (sender s)))
+-- of a block that is a sender
+unfoldable pub netsTrue : (us : List Block) (b : Block) → Bool
+netsTrue us b = neg (isSender b) or same (nets b) (netsOf (sender b) (ownSeries us (sender b)))
 
-unfoldable pub plainRun : Bytes → PlainRunAnswer
+-- "It … gives 1 if the book is not sound"
+unfoldable pub plainRun : (book : Bytes) → PlainRunAnswer
 plainRun book =
     cond (sound book)
     (record { number = 0; holds = every (markTrue (nOf (dayBlock book)) (used book)) (used book) and every (netsTrue (used book)) (used book) })

@@ -3,40 +3,43 @@ use mathlib.Core.Bool.{Bool}
 use Prim.Native.Nat.{ℕ, _/_, _%_}
 use lib.ListN.{length}
 use Rattle.laws.specs.Tests.{_and_, _or_, is, upto, below}
-use Rattle.paper.specs.Layout.{Bytes, Block, zeros, quantity, aboveN}
+use Rattle.paper.specs.Layout.{Bytes, Block, zeros, net, quantity, aboveN}
 
--- whole blocks, from least to most of them
-unfoldable pub wholeBlocks : ℕ → ℕ → Bytes → Bool
-wholeBlocks least most b = is (length b % 512) 0 and upto least (length b / 512) and upto (length b / 512) most
+-- "2 to 1,001 blocks", "2 to 201 whole blocks": whole blocks, from least to most of them
+unfoldable pub wholeBlocks : (least : ℕ) (most : ℕ) (bytes : Bytes) → Bool
+wholeBlocks least most bytes = is (length bytes % 512) 0 and upto least (length bytes / 512) and upto (length bytes / 512) most
 
--- 92, 96 or 100
+-- "n is 92, 96 or 100"
 unfoldable pub nAllowed : ℕ → Bool
 nAllowed n = is n 92 or is n 96 or is n 100
 
--- 0 to 1,440
+-- "Lead 0 to 1,440"
 unfoldable pub leadAllowed : ℕ → Bool
-leadAllowed l = upto l 1440
+leadAllowed minutes = upto minutes 1440
 
--- −10,080 to 1,500, each counted from −10,080
+-- "Clock −10,080 to 1,500": the minute is counted from −10,080
 unfoldable pub clockAllowed : ℕ → Bool
 clockAllowed minute = upto minute 11580
 
--- 1 to 999
+-- "Versions 1 to 999"
 unfoldable pub versionAllowed : ℕ → Bool
-versionAllowed v = upto 1 v and upto v 999
+versionAllowed number = upto 1 number and upto number 999
 
--- 1 to 200 series in a message, and so of a sender
+-- "series in a message 1 to 200", and so of a sender
 unfoldable pub countAllowed : ℕ → Bool
-countAllowed c = upto 1 c and upto c 200
+countAllowed count = upto 1 count and upto count 200
 
--- 0 to 9,999,999
+-- "Quantity 0 to 9,999,999"
 unfoldable pub quantityAllowed : ℕ → Bool
-quantityAllowed q = upto q 9999999
+quantityAllowed kilowatts = upto kilowatts 9999999
 
--- within ±1,999,999,800; a signed number of four bytes is its remainder by 4,294,967,296
+-- "a net lies within ±1,999,999,800"; a signed number of four bytes is its remainder by 4,294,967,296
 unfoldable pub netAllowed : ℕ → Bool
-netAllowed v = upto v 1999999800 or upto 2294967496 v
+netAllowed kilowatts = upto kilowatts 1999999800 or upto 2294967496 kilowatts
 
--- each of the n quantities or nets is allowed, and the positions above n are zero
-unfoldable pub entriesAllowed : (ℕ → Bool) → ℕ → Block → Bool
-entriesAllowed allowed n b = below (λ k. allowed (quantity b k)) n and zeros (aboveN n b)
+-- "within the stated ranges (nets too; positions above n zero)"
+unfoldable pub quantitiesAllowed : (n : ℕ) (x : Block) → Bool
+quantitiesAllowed n x = below (λ k. quantityAllowed (quantity x k)) n and zeros (aboveN n x)
+
+unfoldable pub netsAllowed : (n : ℕ) (s : Block) → Bool
+netsAllowed n s = below (λ k. netAllowed (net s k)) n and zeros (aboveN n s)

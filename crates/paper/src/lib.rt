@@ -13,10 +13,12 @@ pub struct Slot(pub usize);
 #[repr(C)]
 pub struct Minute(pub u16);
 
-// The answer to a submission: the number of the first broken rule, or 0, with the series and the position at which it is broken.
+// The answer to a submission: the number of the first broken rule, or 0, with its reason code (0 where it has none; A53 is 53), and the series and the
+// position at which it is broken.
 #[repr(C)]
 pub struct Verdict {
     pub number: u32,
+    pub code: u8,
     pub series: usize,
     pub position: Position,
 }

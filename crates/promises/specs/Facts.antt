@@ -16,14 +16,14 @@ use Rattle.laws.specs.Cut.Laws.{cut-length, cut-widths}
 use Rattle.laws.specs.Order.Laws.{first-left, first-right, along-all}
 use Rattle.paper.specs.declared.Verdict.{Verdict}
 use Rattle.paper.specs.Check.{checkRight}
-use Rattle.paper.specs.Layout.{Bytes, Block, blocks, zeros, nOf, clock, dayOfBook, area, receiver, version, idOf, seriesCount, sender, dayOfMessage, businessType, contractType, inArea, outArea, inParty, outParty, pair, agreement, quantity, senderZerosInMessage, withClock}
+use Rattle.paper.specs.Layout.{Bytes, Block, blocks, zeros, nOf, clockPlus10080, dayOfBook, area, receiver, version, idOf, seriesCount, sender, dayOfMessage, businessType, contractType, inArea, outArea, inParty, outParty, pair, agreement, quantity, senderZerosInMessage, withClock}
 use Rattle.paper.specs.Ranges.{wholeBlocks, nAllowed, clockAllowed, versionAllowed}
 use Rattle.paper.specs.Ids.{idWellFormed}
 use Rattle.paper.specs.Eic.{eicValid}
-use Rattle.paper.specs.Book.{dayBlock, slots, isFree, used, freeSlots, isSender, isSeries, ownSender, ownSeries}
+use Rattle.paper.specs.Book.{dayBlock, slots, isFree, used, freeSlots, isSender, isSeries, ownSender, ownSeries, idIs, pairIs}
 use Rattle.paper.specs.Sound.{dayFields, daySound, usedFirst, senderSound, partiesOf, seriesSound, usedSound, sameSender, sameSeries, sound}
 use Rattle.paper.specs.Message.{headOf, seriesOf, headRight, seriesRight, messageRight, rule2}
-use Rattle.paper.specs.Rules.{fine, numberOf, _then_, broken, overPositions, rule1, rule3, rule4, rule5, versionBroken, rule6, idIs, pairIs, withOtherPair, withOtherId, rule7, rule8, rule9, rule10, rule12, rule13, closed, rule14, seriesVersion, rule15, absent, rule16, newBlocks, rule17, storedOf, quantityVerdict, closedVerdict, formVerdict, valuesVerdict, seriesVerdict, eachSeries, judge, verdict}
+use Rattle.paper.specs.Rules.{fine, numberOf, _then_, broken, overPositions, rule1, rule3, rule4, rule5, idOrVersionBroken, rule6, withOtherPair, withOtherId, rule7, rule8, rule9, rule10, rule12, rule13, closed, rule14, seriesVersion, rule15, absent, rule16, newBlocks, rule17, storedOf, quantityVerdict, closedVerdict, formVerdict, valuesVerdict, seriesVerdict, eachSeries, headVerdict, lastVerdict, judge, verdict}
 use Rattle.paper.specs.Opening.{Opening, dayBlockOf, openingAllowed, openNumber, opened}
 use Rattle.paper.specs.Clock.{dayState, advanced, clockAnswer, clockMoved}
 use Rattle.facts.specs.Check.{sealed-length, sealed-right}
@@ -134,7 +134,7 @@ module _ (d : Block) (own : List Block) (h : Block) where
     unfolding seriesVerdict
     form = then-left _ _ e
 
-    values : Passed (valuesVerdict d h (storedOf own y) s y)
+    values : Passed (valuesVerdict d (storedOf own y) h s y)
     unfolding seriesVerdict
     values = then-right _ _ e
 
@@ -223,8 +223,8 @@ pub record Accepts (book message : Bytes) : Type 0 where
   pub present : All (λ x. has (pairIs (pair x)) (seriesOf message) ≡ true) (ownSeries (used book) (sender (headOf message)))
   pub fits : newBlocks (ownSender (used book) (sender (headOf message))) (ownSeries (used book) (sender (headOf message))) (seriesOf message) ≤ freeSlots book
 
-version-inside : (stored h : Block) → versionBroken stored h ≡ false → versionAllowed (version h) ≡ true
-unfolding versionBroken versionAllowed
+version-inside : (stored h : Block) → idOrVersionBroken stored h ≡ false → versionAllowed (version h) ≡ true
+unfolding idOrVersionBroken versionAllowed
 version-inside stored h e =
     split (isSender stored)
     (λ t.
@@ -244,16 +244,16 @@ unfolding verdict rule2
 verdict-message book message e = neg-no _ (passed _ 1 0 0 (then-left _ _ (then-right _ _ e)))
 
 pub accepts : (book message : Bytes) → Passed (verdict book message) → Accepts book message
-unfolding verdict judge rule3 rule4 rule5 rule6 rule16 rule17 absent
+unfolding verdict judge headVerdict lastVerdict rule3 rule4 rule5 rule6 rule16 rule17 absent
 accepts book message e =
-    let j3 = then-right _ _ (then-right _ _ e) in
+    let j = then-right _ _ (then-right _ _ e) in
+    let j3 = then-left _ _ j in
     let j4 = then-right _ _ j3 in
     let j5 = then-right _ _ j4 in
-    let j6 = then-right _ _ j5 in
-    let j7 = then-right _ _ j6 in
+    let j7 = then-right _ _ j in
     let j16 = then-right _ _ j7 in
     let r5 = passed _ 4 0 0 (then-left _ _ j5) in
-    let r6 = passed _ 5 0 0 (then-left _ _ j6) in
+    let r6 = passed _ 5 0 0 (then-right _ _ j5) in
     record {
       was = sound-says book (verdict-sound book message e);
       right = message-says message (verdict-message book message e);
@@ -274,14 +274,14 @@ accepts book message e =
 
 pub record Moves (book : Bytes) (minute : ℕ) : Type 0 where
   pub was : Sound book
-  pub later : clock (dayBlock book) ≤ minute
+  pub later : clockPlus10080 (dayBlock book) ≤ minute
   pub most : minute ≤ 11580
   pub result : clockMoved book minute ≡ withClock minute (dayBlock book) ++ drop 512 book
 
-clock-range : (book : Bytes) (minute : ℕ) → sound book ≡ true → (clockAnswer book minute) .number ≡ 0 → (less minute (clock (dayBlock book)) or neg
+clock-range : (book : Bytes) (minute : ℕ) → sound book ≡ true → (clockAnswer book minute) .number ≡ 0 → (less minute (clockPlus10080 (dayBlock book)) or neg
     (clockAllowed minute)) ≡ false
 unfolding clockAnswer advanced dayState
-clock-range book minute s e = split (less minute (clock (dayBlock book)) or neg (clockAllowed minute))
+clock-range book minute s e = split (less minute (clockPlus10080 (dayBlock book)) or neg (clockAllowed minute))
     (λ t. absurd (let z : _≡_ {A = ℕ} 22 0 = rw (s, t) at e in omega arith)) (λ t. t)
 
 clock-sound : (book : Bytes) (minute : ℕ) → sound book ≡ false → (clockAnswer book minute) .number ≡ 0 → ⊥

@@ -12,11 +12,11 @@ use Rattle.laws.specs.Tests.Laws.{split, or-left, or-right, or-yes-left, or-yes
 use Rattle.laws.specs.Lists.{same, find, has}
 use Rattle.laws.specs.Lists.Laws.{same-yes, all-find, has-yes, has-no-find, find-passes, find-sieve}
 use Rattle.paper.specs.declared.FinalAnswer.{FinalAnswer}
-use Rattle.paper.specs.Layout.{Bytes, Block, nOf, lead, clock, sender, pair, quantities, entry, quantity, withClock}
-use Rattle.paper.specs.Book.{dayBlock, used, slotOf, isSeriesOf, ownSeries}
+use Rattle.paper.specs.Layout.{Bytes, Block, nOf, lead, clockPlus10080, sender, pair, quantities, entry, quantity, withClock}
+use Rattle.paper.specs.Book.{dayBlock, used, slotOf, isSeriesOf, ownSeries, pairIs, isSeriesOfPair}
 use Rattle.paper.specs.Sound.{sound}
-use Rattle.paper.specs.Rules.{numberOf, pairIs, isOpen, closed, storedOf, verdict}
-use Rattle.paper.specs.Acceptance.{isSeriesOfPair, accepted}
+use Rattle.paper.specs.Rules.{numberOf, isOpen, closed, storedOf, verdict}
+use Rattle.paper.specs.Acceptance.{accepted}
 use Rattle.paper.specs.Finals.{held, isHeld, heldAt, finalRefused, finalIn, final}
 use Rattle.paper.specs.Opening.{openNumber}
 use Rattle.paper.specs.Clock.{clockAnswer, clockMoved}
@@ -36,18 +36,18 @@ use Rattle.promises.specs.Invariant.{Invariant, invariant-run}
 record Later (b c : Bytes) : Type 0 where
   pub n : nOf (dayBlock c) ≡ nOf (dayBlock b)
   pub leads : lead (dayBlock c) ≡ lead (dayBlock b)
-  pub clocks : clock (dayBlock b) ≤ clock (dayBlock c)
+  pub clocks : clockPlus10080 (dayBlock b) ≤ clockPlus10080 (dayBlock c)
   pub kept : (e p : Bytes) → isHeld (held (used b) e p) ≡ true → isHeld (held (used c) e p) ≡ true
   pub values : (e p : Bytes) (k : ℕ) → k < 100 → closed (dayBlock b) (k + 1) ≡ true → heldAt (held (used c) e p) k ≡ heldAt (held (used b) e p) k
 
-closed-later : (d e : Block) (p : ℕ) → lead e ≡ lead d → clock d ≤ clock e → closed d p ≡ true → closed e p ≡ true
+closed-later : (d e : Block) (p : ℕ) → lead e ≡ lead d → clockPlus10080 d ≤ clockPlus10080 e → closed d p ≡ true → closed e p ≡ true
 unfolding closed isOpen
 closed-later d e p l c h =
-    let q : 15 * (p - 1) + 10080 < clock d + lead d = upto-no _ _ (neg-yes _ h) in
+    let q : 15 * (p - 1) + 10080 < clockPlus10080 d + lead d = upto-no _ _ (neg-yes _ h) in
     neg-true _ (upto-false _ _ (omega arith))
 
 later-refl : (b : Bytes) → Later b b
-later-refl b = record { n = refl; leads = refl; clocks = le-refl (clock (dayBlock b)); kept = λ e p h. h; values = λ e p k l h. refl }
+later-refl b = record { n = refl; leads = refl; clocks = le-refl (clockPlus10080 (dayBlock b)); kept = λ e p h. h; values = λ e p k l h. refl }
 
 later-trans : (a b c : Bytes) → Later a b → Later b c → Later a c
 later-trans a b c f g = record {
@@ -64,7 +64,7 @@ later-moved : (book : Bytes) (minute : ℕ) → Moves book minute → Later book
 later-moved book minute m =
     let u : used (clockMoved book minute) ≡ used book = used-moved book minute m in
     let d : dayBlock (clockMoved book minute) ≡ withClock minute (dayBlock book) = day-block-moved book minute m in
-    let k : clock (withClock minute (dayBlock book)) ≡ minute = clock-with-clock minute (dayBlock book) (omega (arith, m .most)) (day-block-length book (m .was)) in
+    let k : clockPlus10080 (withClock minute (dayBlock book)) ≡ minute = clock-with-clock minute (dayBlock book) (omega (arith, m .most)) (day-block-length book (m .was)) in
     record {
       n = ap nOf d ∙ n-with-clock minute (dayBlock book);
       leads = ap lead d ∙ lead-with-clock minute (dayBlock book);
@@ -139,7 +139,7 @@ module _ (book message : Bytes) (a : Accepts book message) where
   later-accepted = record {
     n = ap nOf (day-block-accepted book message a);
     leads = ap lead (day-block-accepted book message a);
-    clocks = rw (day-block-accepted book message a) (le-refl (clock (dayBlock book)));
+    clocks = rw (day-block-accepted book message a) (le-refl (clockPlus10080 (dayBlock book)));
     kept = kept-now;
     values = values-now;
   }

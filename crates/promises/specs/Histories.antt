@@ -8,9 +8,8 @@ use Rattle.laws.specs.Tests.{_and_}
 use Rattle.laws.specs.Lists.{find, has}
 use Rattle.paper.specs.declared.FinalAnswer.{FinalAnswer}
 use Rattle.paper.specs.Layout.{Bytes, Block, pair}
-use Rattle.paper.specs.Book.{slotOf, isSeriesOf}
+use Rattle.paper.specs.Book.{slotOf, isSeriesOf, pairIs}
 use Rattle.paper.specs.Message.{headOf}
-use Rattle.paper.specs.Rules.{pairIs}
 use Rattle.paper.specs.Marks.{isCounterpart}
 use Rattle.paper.specs.Opening.{Opening, openNumber, opened}
 use Rattle.paper.specs.PlainRule.{latest, seriesOfLatest}

@@ -8,11 +8,11 @@ use Rattle.laws.specs.Tests.{is}
 use Rattle.laws.specs.Tests.Laws.{split, is-yes, is-no}
 use Rattle.laws.specs.Lists.{same, find}
 use Rattle.paper.specs.Layout.{Bytes, Block, nOf, sender, nets, quantities}
-use Rattle.paper.specs.Book.{dayBlock, used, isSenderBlockOf, slotOf}
+use Rattle.paper.specs.Book.{dayBlock, used, isSenderBlockOf, slotOf, pairIs, isSeriesOfPair}
 use Rattle.paper.specs.Message.{headOf, seriesOf}
-use Rattle.paper.specs.Rules.{numberOf, pairIs, verdict}
+use Rattle.paper.specs.Rules.{numberOf, verdict}
 use Rattle.paper.specs.Nets.{netsOf}
-use Rattle.paper.specs.Acceptance.{isSeriesOfPair, accepted}
+use Rattle.paper.specs.Acceptance.{accepted}
 use Rattle.paper.specs.Finals.{held}
 use Rattle.paper.specs.Opening.{Opening, openNumber, opened}
 use Rattle.paper.specs.Clock.{clockAnswer, clockMoved}

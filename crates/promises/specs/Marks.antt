@@ -10,9 +10,9 @@ use Rattle.laws.specs.Tests.Laws.{split, clash, and-both, and-no, or-right, or-
 use Rattle.laws.specs.Lists.{find, place, has, All}
 use Rattle.laws.specs.Lists.Laws.{all-imply, all-both, all-find, has-no-all, all-has-no, has-append-left, has-append-right, find-passes, find-append-only, place-append-only, all-map, find-map}
 use Rattle.paper.specs.Layout.{Bytes, Block, sender, sendersSlot, pair, mark, withSendersSlot}
-use Rattle.paper.specs.Book.{isSeries, isSeriesOf}
+use Rattle.paper.specs.Book.{isSeries, isSeriesOf, isSeriesOfPair}
 use Rattle.paper.specs.Marks.{isCounterpart, counterpart, counterpartSlot, markIn}
-use Rattle.paper.specs.Acceptance.{slotFor, senderKept, renewed, fresh, placed, isSeriesOfPair, touched, remarked, usedAfter}
+use Rattle.paper.specs.Acceptance.{slotFor, senderKept, renewed, fresh, placed, touched, remarked, usedAfter}
 use Rattle.facts.specs.Layout.{with-senders-slot-length, mark-with-mark}
 use Rattle.facts.specs.Book.{series-of-slot}
 use Rattle.promises.specs.Laws.{place-map-each, has-map-each}

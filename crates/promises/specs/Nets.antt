@@ -13,10 +13,10 @@ use Rattle.laws.specs.Lists.{same, total, All}
 use Rattle.laws.specs.Lists.Laws.{all-imply, total-none, total-bound}
 use Rattle.laws.specs.Bytes.{part, value, little, number}
 use Rattle.laws.specs.Bytes.Laws.{part-all, part-append-left, part-append-right, little-length, value-little}
-use Rattle.paper.specs.Layout.{Bytes, Block, inParty, outParty, entry, quantity, withNets}
-use Rattle.paper.specs.Ranges.{netAllowed, entriesAllowed}
+use Rattle.paper.specs.Layout.{Bytes, Block, inParty, outParty, entry, quantity, withNets, net}
+use Rattle.paper.specs.Ranges.{netAllowed, netsAllowed}
 use Rattle.paper.specs.Nets.{bought, sold, netOf, netsTo, netsOf}
-use Rattle.facts.specs.Layout.{nets-with-nets, entry-nets, zeros-above}
+use Rattle.facts.specs.Layout.{nets-with-nets, entry-nets, zeros-above, net-is-quantity}
 
 pub nets-to-length : (e : Bytes) (l : List Block) (m : ℕ) → length (netsTo e l m) ≡ 4 * m
 unfolding netsTo
@@ -48,9 +48,9 @@ nets-to-entry e l (suc m) k h = elim (ℕ-discrete k m) [ yes i ↦ last i | no 
     front t q = ap value (part-append-left (4 * k) 4 (netsTo e l m) (little 4 (netOf e l m)) (omega (arith, nets-to-length e l m))) ∙ q
 
 -- the word in the block that they are written over
-net-quantity : (e : Bytes) (l : List Block) (s : Block) → length s ≡ 512 → (k : ℕ) → k < 100 → quantity (withNets (netsOf e l) s) k ≡ netOf e l k
-unfolding netsOf entry
-net-quantity e l s w k h = sym (entry-nets (withNets (netsTo e l 100) s) k h) ∙ ap (λ v. number 4 (4 * k) v)
+net-with-nets : (e : Bytes) (l : List Block) (s : Block) → length s ≡ 512 → (k : ℕ) → k < 100 → net (withNets (netsOf e l) s) k ≡ netOf e l k
+unfolding netsOf entry net quantity
+net-with-nets e l s w k h = sym (entry-nets (withNets (netsTo e l 100) s) k h) ∙ ap (λ v. number 4 (4 * k) v)
     (nets-with-nets (netsTo e l 100) s (nets-to-length e l 100) w) ∙ nets-to-entry e l 100 k h
 
 -- ---- their range
@@ -91,12 +91,12 @@ net-none e l k h = rw (shares-none (λ x. same (inParty x) e) k l h, shares-none
 
 pub nets-allowed : (e : Bytes) (l : List Block) (s : Block) (n : ℕ) → n ≤ 100 → length s ≡ 512 → length l ≤ 200
     → ((k : ℕ) → k < n → All (λ x. quantity x k ≤ 9999999) l) → ((k : ℕ) → k < 100 → n ≤ k → All (λ x. quantity x k ≡ 0) l)
-    → entriesAllowed netAllowed n (withNets (netsOf e l) s) ≡ true
-unfolding entriesAllowed
+    → netsAllowed n (withNets (netsOf e l) s) ≡ true
+unfolding netsAllowed
 nets-allowed e l s n h w f low high =
-    and-both _ _ (below-each (λ k. netAllowed (quantity (withNets (netsOf e l) s) k)) n (λ k t. rw (net-quantity e l s w k (omega arith))
+    and-both _ _ (below-each (λ k. netAllowed (net (withNets (netsOf e l) s) k)) n (λ k t. rw (net-with-nets e l s w k (omega arith))
     (net-range e l k f (low k t))))
-    (zeros-above n (withNets (netsOf e l) s) h (λ k t u. net-quantity e l s w k t ∙ net-none e l k (high k t u)))
+    (zeros-above n (withNets (netsOf e l) s) h (λ k t u. sym (net-is-quantity _ k) ∙ net-with-nets e l s w k t ∙ net-none e l k (high k t u)))
 
 -- ---- what they depend on
 

@@ -13,10 +13,10 @@ use Rattle.laws.specs.Lists.{nth, has}
 use Rattle.laws.specs.Lists.Laws.{all-nth, nth-append-left, has-yes, find-passes, find-has-other, nth-map}
 use Rattle.laws.specs.Cut.{join}
 use Rattle.paper.specs.Layout.{Bytes, Block, nOf, sender, sendersSlot, pair}
-use Rattle.paper.specs.Book.{dayBlock, used, isSeries, isSenderBlockOf, slotOf, isSeriesOf}
+use Rattle.paper.specs.Book.{dayBlock, used, isSeries, isSenderBlockOf, slotOf, isSeriesOf, isSeriesOfPair}
 use Rattle.paper.specs.Message.{headOf, seriesOf}
 use Rattle.paper.specs.Marks.{isCounterpart, markIn}
-use Rattle.paper.specs.Acceptance.{fresh, placed, isSeriesOfPair, touched, remarked, usedAfter, accepted}
+use Rattle.paper.specs.Acceptance.{fresh, placed, touched, remarked, usedAfter, accepted}
 use Rattle.facts.specs.Layout.{ButMark, but-mark-refl, but-mark-with-mark}
 use Rattle.facts.specs.Book.{series-of-yes}
 use Rattle.promises.specs.Laws.{has-map-each}

@@ -9,10 +9,8 @@ use Rattle.laws.specs.Tests.Laws.{split, and-left, and-right, and-both, and-no-
 use Rattle.laws.specs.Lists.{find}
 use Rattle.laws.specs.Lists.Laws.{same-yes, same-equal}
 use Rattle.paper.specs.Layout.{Bytes, Block, sendersSlot, pair, quantities}
-use Rattle.paper.specs.Book.{isSeries, slotOf, isSeriesOf}
-use Rattle.paper.specs.Rules.{pairIs}
+use Rattle.paper.specs.Book.{isSeries, slotOf, isSeriesOf, pairIs, isSeriesOfPair}
 use Rattle.paper.specs.Marks.{isCounterpart}
-use Rattle.paper.specs.Acceptance.{isSeriesOfPair}
 use Rattle.paper.specs.Finals.{held}
 use Rattle.facts.specs.Book.{series-of-series, series-of-slot}
 

@@ -12,11 +12,10 @@ use Rattle.laws.specs.Lists.{same, find, place, nth, every, apart, All}
 use Rattle.laws.specs.Lists.Laws.{same-equal, all-imply, all-nth, find-passes, find-agree, place-length, nth-place, place-agree, every-all, all-every}
 use Rattle.laws.specs.Bytes.{number}
 use Rattle.paper.specs.Layout.{Bytes, Block, nOf, sender, nets, sendersSlot, pair, mark, partner, quantities}
-use Rattle.paper.specs.Book.{dayBlock, used, isSender, isSeries, slotOf, ownSeries}
+use Rattle.paper.specs.Book.{dayBlock, used, isSender, isSeries, slotOf, ownSeries, isSeriesOfPair}
 use Rattle.paper.specs.Sound.{sameSeries}
 use Rattle.paper.specs.Marks.{isCounterpart, counterpart, counterpartSlot, markOf, markIn}
 use Rattle.paper.specs.Nets.{netsOf}
-use Rattle.paper.specs.Acceptance.{isSeriesOfPair}
 use Rattle.paper.specs.Finals.{held}
 use Rattle.paper.specs.PlainRun.{markTrue, netsTrue, plainRun}
 use Rattle.paper.specs.PlainRule.{plainHeld, otherParty, plainMark}

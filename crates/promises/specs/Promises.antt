@@ -8,11 +8,11 @@ use Prim.Native.Nat.{ℕ, _+_, _*_}
 use lib.ListN.{length, drop}
 use Rattle.laws.specs.Lists.{find, nth}
 use Rattle.paper.specs.Layout.{Bytes, Block, nOf, sender, nets, sendersSlot, pair, mark, partner, quantities}
-use Rattle.paper.specs.Book.{dayBlock, used, freeSlots, isSeries, isSenderBlockOf, slotOf, isSeriesOf, ownSender, ownSeries}
+use Rattle.paper.specs.Book.{dayBlock, used, freeSlots, isSeries, isSenderBlockOf, slotOf, isSeriesOf, ownSender, ownSeries, isSeriesOfPair}
 use Rattle.paper.specs.Sound.{sound}
 use Rattle.paper.specs.Message.{headOf}
 use Rattle.paper.specs.Rules.{numberOf, verdict}
-use Rattle.paper.specs.Acceptance.{isSeriesOfPair, accepted, submitted}
+use Rattle.paper.specs.Acceptance.{accepted, submitted}
 use Rattle.paper.specs.Finals.{held, final}
 use Rattle.paper.specs.Opening.{Opening, openNumber, opened}
 use Rattle.paper.specs.Clock.{clockAnswer, clockMoved}

@@ -10,11 +10,11 @@ use lib.Seq.{drop-drop}
 use Rattle.laws.specs.Tests.{_or_}
 use Rattle.laws.specs.Tests.Laws.{split, clash, or-yes-left, or-yes-right, or-else}
 use Rattle.laws.specs.Lists.{has, keep, All}
-use Rattle.laws.specs.Lists.Laws.{all-imply, all-drop, count-keep, keep-none, all-map}
+use Rattle.laws.specs.Lists.Laws.{all-imply, all-drop, count-keep, has-no-place, all-map}
 use Rattle.laws.specs.Cut.{join}
 use Rattle.laws.specs.Cut.Laws.{join-length}
 use Rattle.paper.specs.Layout.{Bytes, Block, blocks, nOf, sender, withSendersSlot}
-use Rattle.paper.specs.Book.{dayBlock, slots, isFree, used, freeSlots, isSender, isSeries, numbered, isSenderBlockOf, ownSender, ownSeries}
+use Rattle.paper.specs.Book.{dayBlock, slots, isFree, used, freeSlots, isSender, isSeries, numbered, isSenderBlockOf, ownSender, ownSeries, slotOf}
 use Rattle.paper.specs.Sound.{usedSound}
 use Rattle.paper.specs.Message.{headOf, seriesOf}
 use Rattle.paper.specs.Rules.{isNew, newBlocks}
@@ -35,13 +35,13 @@ after-length n us h series =
     ∙ length-append (map (renewed (slotFor us (sender h)) h series) us) (fresh us h series) ∙ ap (λ k. k + length (fresh us h series)) (length-map us _)
 
 fresh-few : (us : List Block) (h : Block) (series : List Block) → length (fresh us h series) ≤ newBlocks (ownSender us (sender h)) (ownSeries us (sender h)) series
-unfolding fresh newBlocks ownSender numbered
+unfolding fresh newBlocks ownSender slotOf numbered
 fresh-few us h series =
     let k = length-map (keep (isNew (ownSeries us (sender h))) series) (withSendersSlot (slotFor us (sender h))) in
     let l = count-keep (isNew (ownSeries us (sender h))) series in
     split (has (isSenderBlockOf (sender h)) us)
     (λ t. rw t (omega arith))
-    (λ t. rw (t, keep-none _ us t, no-block-sender) (omega arith))
+    (λ t. rw (t, has-no-place _ us t, no-block-sender) (omega arith))
 
 -- ---- no block is free
 

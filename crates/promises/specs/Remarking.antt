@@ -12,9 +12,9 @@ use Rattle.laws.specs.Lists.{same, find}
 use Rattle.laws.specs.Lists.Laws.{find-map}
 use Rattle.laws.specs.Bytes.Laws.{little-length}
 use Rattle.paper.specs.Layout.{Bytes, Block, sendersSlot, pair, quantities, withMark}
-use Rattle.paper.specs.Book.{isSender, isSeries, isSenderBlockOf}
+use Rattle.paper.specs.Book.{isSender, isSeries, isSenderBlockOf, isSeriesOfPair}
 use Rattle.paper.specs.Marks.{isCounterpart, counterpart, counterpartSlot, markOf, markIn}
-use Rattle.paper.specs.Acceptance.{isSeriesOfPair, touched, remarked}
+use Rattle.paper.specs.Acceptance.{touched, remarked}
 use Rattle.facts.specs.Layout.{with-mark-length, kind-with-mark, sender-with-mark, senders-slot-with-mark, pair-with-mark, quantities-with-mark, Alike, alike-refl, alike-mark}
 use Rattle.promises.specs.Laws.{place-map-each}
 use Rattle.promises.specs.Pairs.{viewFound, map-view, Keeps, of-pair-kept, counterpart-kept}

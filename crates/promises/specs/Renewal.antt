@@ -12,9 +12,9 @@ use Rattle.laws.specs.Tests.Laws.{split, clash}
 use Rattle.laws.specs.Lists.{same, find, has, keep, All}
 use Rattle.laws.specs.Lists.Laws.{all-imply, all-both, all-append, all-keep, all-kept, all-find, find-passes, place-length, all-map}
 use Rattle.paper.specs.Layout.{Bytes, Block, sender, sendersSlot, pair, withSendersSlot}
-use Rattle.paper.specs.Book.{used, isSender, isSeries, isSenderBlockOf, slotOf, isSeriesOf, ownSeries}
+use Rattle.paper.specs.Book.{used, isSender, isSeries, isSenderBlockOf, slotOf, isSeriesOf, ownSeries, pairIs}
 use Rattle.paper.specs.Message.{headOf, seriesOf}
-use Rattle.paper.specs.Rules.{pairIs, isNew}
+use Rattle.paper.specs.Rules.{isNew}
 use Rattle.paper.specs.Acceptance.{slotFor, senderKept, replaced, renewed, fresh, placed}
 use Rattle.facts.specs.Layout.{with-senders-slot-length, with-nets-length, senders-slot-with-senders-slot, kind-with-senders-slot, pair-with-senders-slot, kind-with-nets, sender-with-nets}
 use Rattle.facts.specs.Book.{sender-kind, kind-sender, sender-not-series, sender-block-sender, sender-block-eic, sender-block-series, series-of-series, series-of-slot, series-of-other, used-lengths}

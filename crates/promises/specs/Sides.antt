@@ -9,11 +9,9 @@ use Rattle.laws.specs.Tests.Laws.{split, and-left, and-right, and-no-left, or-e
 use Rattle.laws.specs.Lists.{same, has, All}
 use Rattle.laws.specs.Lists.Laws.{same-yes, same-other, same-no, all-imply}
 use Rattle.paper.specs.Layout.{Bytes, Block, sendersSlot, pair}
-use Rattle.paper.specs.Book.{isSeries, isSenderBlockOf, slotOf}
+use Rattle.paper.specs.Book.{isSeries, isSenderBlockOf, slotOf, pairIs, isSeriesOfPair}
 use Rattle.paper.specs.Sound.{partiesOf}
-use Rattle.paper.specs.Rules.{pairIs}
 use Rattle.paper.specs.Marks.{isCounterpart}
-use Rattle.paper.specs.Acceptance.{isSeriesOfPair}
 use Rattle.paper.specs.PlainRule.{otherParty}
 use Rattle.promises.specs.Laws.{and-agree}
 use Rattle.promises.specs.Pairs.{pair-is-yes}

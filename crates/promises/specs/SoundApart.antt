@@ -8,10 +8,10 @@ use Rattle.laws.specs.Tests.Laws.{split, clash, and-left, and-right, and-both, 
 use Rattle.laws.specs.Lists.{has, every, apart, All}
 use Rattle.laws.specs.Lists.Laws.{same-yes, same-equal, all-imply, all-both, all-each, all-keep, has-no-all, apart-append, apart-keep, apart-none, all-map, apart-map}
 use Rattle.paper.specs.Layout.{Bytes, Block, idOf, sender, sendersSlot, pair, withSendersSlot}
-use Rattle.paper.specs.Book.{dayBlock, used, isSender, isSeries, isSenderBlockOf, isSeriesOf, ownSeries}
+use Rattle.paper.specs.Book.{dayBlock, used, isSender, isSeries, isSenderBlockOf, isSeriesOf, ownSeries, idIs, pairIs}
 use Rattle.paper.specs.Sound.{sameSender, sameSeries}
 use Rattle.paper.specs.Message.{headOf, seriesOf}
-use Rattle.paper.specs.Rules.{idIs, pairIs, isNew}
+use Rattle.paper.specs.Rules.{isNew}
 use Rattle.paper.specs.Acceptance.{slotFor, senderKept, fresh, placed, usedAfter}
 use Rattle.facts.specs.Layout.{pair-with-senders-slot, alike-senders-slot, alike-id}
 use Rattle.facts.specs.Book.{series-not-sender, sender-block-sender, sender-block-eic, sender-block-yes, sender-block-own, series-of-yes}

@@ -13,7 +13,7 @@ use Rattle.laws.specs.Lists.Laws.{same-yes, all-imply, all-both, count-keep, al
 use Rattle.paper.specs.Layout.{Bytes, Block, nOf, seriesCount, sender, quantity, withSendersSlot}
 use Rattle.paper.specs.Ranges.{countAllowed}
 use Rattle.paper.specs.Book.{dayBlock, used, isSender, isSeries, isSenderBlockOf, slotOf, isSeriesOf}
-use Rattle.paper.specs.Sound.{countSound, senderFields, senderDay, senderSound, seriesSound, usedSound}
+use Rattle.paper.specs.Sound.{countSound, senderFields, senderDayAndNets, senderSound, seriesSound, usedSound}
 use Rattle.paper.specs.Message.{headOf, seriesOf}
 use Rattle.paper.specs.Acceptance.{senderKept, usedAfter}
 use Rattle.facts.specs.Layout.{sender-with-nets, n-with-nets, version-with-nets, series-count-with-nets, id-with-nets, receiver-with-nets, day-of-message-with-nets, sender-zeros-with-nets}
@@ -58,8 +58,8 @@ module _ (book message : Bytes) (a : Accepts book message) where
       (and-both _ _ (and-both _ _ (and-both _ _ (is-equal _ _ (a .n-is)) (a .version-allowed)) (a .id-formed)) (a .sender-valid)))
       (sender-zeros-with-nets _ h (a .right .head-zeros))
 
-  kept-day : senderDay d (senderKept h series) ≡ true
-  unfolding senderDay senderKept
+  kept-day : senderDayAndNets d (senderKept h series) ≡ true
+  unfolding senderDayAndNets senderKept
   kept-day =
       and-both _ _
       (rw (receiver-with-nets, day-of-message-with-nets) (and-both _ _ (a .receiver-is) (a .day-is)))

@@ -15,11 +15,11 @@ use Rattle.laws.specs.Lists.Laws.{all-imply, all-both, all-keep, all-kept, all-
 use Rattle.laws.specs.Bytes.{part, value, little, number}
 use Rattle.laws.specs.Bytes.Laws.{little-length, value-little, number-1}
 use Rattle.paper.specs.Layout.{Bytes, Block, nOf, version, sender, sendersSlot, pair, mark, state, first, partner, quantities, entry, quantity, withSendersSlot, withMark}
-use Rattle.paper.specs.Ranges.{versionAllowed, quantityAllowed, entriesAllowed}
-use Rattle.paper.specs.Book.{dayBlock, used, isSeries, numbered, isSenderBlockOf, slotOf, isSeriesOf, ownSeries}
+use Rattle.paper.specs.Ranges.{versionAllowed, quantityAllowed, quantitiesAllowed}
+use Rattle.paper.specs.Book.{dayBlock, used, isSeries, numbered, isSenderBlockOf, slotOf, isSeriesOf, ownSeries, pairIs}
 use Rattle.paper.specs.Sound.{partiesOf, ownerSound, partnerSound, seriesFields, seriesCodes, seriesValues, seriesSound, usedSound}
 use Rattle.paper.specs.Message.{headOf, seriesOf}
-use Rattle.paper.specs.Rules.{pairIs, seriesVersion, storedOf}
+use Rattle.paper.specs.Rules.{seriesVersion, storedOf}
 use Rattle.paper.specs.Marks.{isCounterpart, counterpart, counterpartSlot, differenceFrom, firstDifference, markOf, markIn}
 use Rattle.paper.specs.Acceptance.{senderKept, touched, usedAfter}
 use Rattle.facts.specs.Layout.{with-senders-slot-length, mark-with-mark, pair-with-senders-slot, Alike, alike-senders-slot, alike-n, alike-version, alike-business-type, alike-contract-type, alike-id, alike-in-area, alike-out-area, alike-in-party, alike-out-party, alike-agreement, alike-quantity, alike-above, mark-state, mark-first, mark-partner, zeros-above}
@@ -37,7 +37,7 @@ use Rattle.promises.specs.SoundSlots.{placed-few, series-placed, series-
 pub record Fields (d x : Block) : Type 0 where
   pub fields : seriesFields d x ≡ true
   pub codes : seriesCodes d x ≡ true
-  pub entries : entriesAllowed quantityAllowed (nOf d) x ≡ true
+  pub entries : quantitiesAllowed (nOf d) x ≡ true
 
 -- its mark
 record Marked (d : Block) (l : List Block) (x : Block) : Type 0 where
@@ -79,7 +79,7 @@ unfolding seriesFields
 fields-version d x f = and-right _ _ (and-left _ _ (and-left _ _ (and-left _ _ (f .fields))))
 
 fields-alike : (d x y : Block) → nOf d ≤ 100 → Alike x y → Fields d y → Fields d x
-unfolding seriesFields seriesCodes entriesAllowed
+unfolding seriesFields seriesCodes quantitiesAllowed
 fields-alike d x y h a f = record {
   fields = rw (alike-n x y a, alike-version x y a, alike-business-type x y a, alike-contract-type x y a, alike-id x y a) (f .fields);
   codes = rw (alike-in-area x y a, alike-out-area x y a, alike-in-party x y a, alike-out-party x y a, alike-agreement x y a) (f .codes);
@@ -108,7 +108,7 @@ version-line d own h y l v f = ap versionAllowed (l .version-is) ∙ by (find (p
 
 fields-line : (d : Block) (own : List Block) (h y : Block) → nOf d ≤ 100 → Line d own h y → nOf y ≡ nOf d → versionAllowed (version h) ≡ true → All
     (λ x. versionAllowed (version x) ≡ true) own → Fields d y
-unfolding seriesFields seriesCodes entriesAllowed quantityAllowed
+unfolding seriesFields seriesCodes quantitiesAllowed quantityAllowed
 fields-line d own h y n l e v f = record {
   fields = and-both _ _ (and-both _ _ (and-both _ _ (and-both _ _ (is-equal _ _ e) (version-line d own h y l v f)) (l .business)) (l .contract)) (l .id-formed);
   codes = and-both _ _ (and-both _ _ (and-both _ _ (and-both _ _ (l .in-area) (l .out-area)) (l .in-valid)) (l .out-valid)) (l .no-agreement);

@@ -17,7 +17,7 @@ use Rattle.paper.specs.Check.{checkRight}
 use Rattle.paper.specs.Layout.{Bytes, Block, blocks, zeros, nOf, dayOfBook, area, receiver, withClock}
 use Rattle.paper.specs.Ranges.{clockAllowed}
 use Rattle.paper.specs.Book.{dayBlock, slots, isFree, used}
-use Rattle.paper.specs.Sound.{dayFields, daySound, senderFields, senderDay, senderSound, seriesFields, seriesCodes, seriesValues, seriesSound, usedSound, sound}
+use Rattle.paper.specs.Sound.{dayFields, daySound, senderFields, senderDayAndNets, senderSound, seriesFields, seriesCodes, seriesValues, seriesSound, usedSound, sound}
 use Rattle.paper.specs.Rules.{numberOf, verdict}
 use Rattle.paper.specs.Acceptance.{accepted, submitted}
 use Rattle.paper.specs.Opening.{Opening, dayBlockOf, openNumber, opened}
@@ -70,7 +70,7 @@ day-sound-moved minute d e h k =
 -- what a used block takes of the day block
 used-sound-day : (d e : Block) (us : List Block) (x : Block) → nOf d ≡ nOf e → receiver d ≡ receiver e → dayOfBook d ≡ dayOfBook e → area d ≡ area e
     → usedSound d us x ≡ usedSound e us x
-unfolding usedSound senderSound senderFields senderDay seriesSound seriesFields seriesCodes seriesValues
+unfolding usedSound senderSound senderFields senderDayAndNets seriesSound seriesFields seriesCodes seriesValues
 used-sound-day d e us x n r p a = rw (n, r, p, a)
 
 module _ (book : Bytes) (minute : ℕ) (m : Moves book minute) where

@@ -11,10 +11,10 @@ use Rattle.laws.specs.Tests.Laws.{split, is-no}
 use Rattle.laws.specs.Lists.{same, find, has, keep, All}
 use Rattle.laws.specs.Lists.Laws.{same-yes, all-imply, all-both, all-keep, all-find, has-yes, all-has-no, has-sieve, find-passes, find-append-first, find-append-second, find-append-only, find-keep, find-map-all, find-map}
 use Rattle.paper.specs.Layout.{Bytes, Block, nOf, sender, sendersSlot, pair, quantities, withSendersSlot}
-use Rattle.paper.specs.Book.{dayBlock, used, isSeries, isSenderBlockOf, slotOf, isSeriesOf, ownSeries}
+use Rattle.paper.specs.Book.{dayBlock, used, isSeries, isSenderBlockOf, slotOf, isSeriesOf, ownSeries, pairIs, isSeriesOfPair}
 use Rattle.paper.specs.Message.{headOf, seriesOf}
-use Rattle.paper.specs.Rules.{pairIs, isNew}
-use Rattle.paper.specs.Acceptance.{slotFor, senderKept, replaced, renewed, fresh, placed, isSeriesOfPair, remarked, usedAfter}
+use Rattle.paper.specs.Rules.{isNew}
+use Rattle.paper.specs.Acceptance.{slotFor, senderKept, replaced, renewed, fresh, placed, remarked, usedAfter}
 use Rattle.facts.specs.Layout.{pair-with-senders-slot, quantities-with-senders-slot, alike-senders-slot, content, alike-content}
 use Rattle.facts.specs.Book.{series-of-slot, series-of-yes, series-of-other}
 use Rattle.promises.specs.Laws.{has-map-each}

@@ -11,10 +11,10 @@ use Rattle.laws.specs.Tests.Laws.{split, is-no}
 use Rattle.laws.specs.Lists.{find, has, apart, keep, total, All}
 use Rattle.laws.specs.Lists.Laws.{same-swap, all-imply, all-both, all-each, all-keep, all-kept, has-yes, has-no-find, all-has-no, apart-keep, keep-append, keep-all, keep-none, total-append, total-agree, total-keep, total-sieve, all-map, total-map}
 use Rattle.paper.specs.Layout.{Bytes, Block, sender, sendersSlot, pair, withSendersSlot}
-use Rattle.paper.specs.Book.{used, isSeries, isSenderBlockOf, isSeriesOf}
+use Rattle.paper.specs.Book.{used, isSeries, isSenderBlockOf, isSeriesOf, pairIs}
 use Rattle.paper.specs.Sound.{sameSeries}
 use Rattle.paper.specs.Message.{headOf, seriesOf}
-use Rattle.paper.specs.Rules.{pairIs, isNew}
+use Rattle.paper.specs.Rules.{isNew}
 use Rattle.paper.specs.Acceptance.{senderKept, replaced, fresh, placed, usedAfter}
 use Rattle.facts.specs.Book.{series-of-series, series-of-slot, series-of-yes, series-of-other}
 use Rattle.promises.specs.Laws.{keep-map-each, ofFound, total-one, total-each, total-swap}

@@ -4,8 +4,7 @@ ghost use Rattle.laws.specs.Tests.{_and_};
 ghost use Rattle.laws.specs.Lists.{place};
 ghost use Rattle.laws.specs.Cut.{cut};
 ghost use Rattle.paper.specs.Layout.{state, first, partner};
-ghost use Rattle.paper.specs.Book.{used, isSeriesOf};
-ghost use Rattle.paper.specs.Rules.{idIs};
+ghost use Rattle.paper.specs.Book.{used, isSeriesOf, idIs};
 ghost use Rattle.paper.specs.Readings.{isStoredAs, storedAs, markAnswerOf, markFound, markAnswer, acceptedBlock};
 ghost use Rattle.paper.specs.Finals.{final};
 

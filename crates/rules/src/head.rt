@@ -1,7 +1,6 @@
 // Rules 3 to 6: the message's first block beside the day block, and beside the sender's stored block.
 ghost use mathlib.Core.Path.{_≡_};
-ghost use mathlib.Core.List.{[], _∷_};
-ghost use Rattle.paper.specs.Rules.{rule3, rule4, rule5, rule6, versionBroken};
+ghost use Rattle.paper.specs.Rules.{rule3, rule4, rule5, rule6, idOrVersionBroken};
 ghost use Rattle.eic.specs.Table.{IsTable};
 use eic::eic_valid_with;
 use field::id_well_formed;
@@ -38,8 +37,8 @@ pub fn rule_5(d: &[u8], h: &[u8]) -> bool
 }
 
 // One more than the largest version of two bytes fits in four.
-fn version_broken(stored: &[u8], h: &[u8]) -> bool
-    ensures { λ r. ⌜ r ≡ versionBroken (now (stored .entry)) (now (h .entry)) ⌝ }
+fn id_or_version_broken(stored: &[u8], h: &[u8]) -> bool
+    ensures { λ r. ⌜ r ≡ idOrVersionBroken (now (stored .entry)) (now (h .entry)) ⌝ }
 {
     if is_sender(stored) {
         return !same(id_of(h), id_of(stored))
@@ -51,7 +50,7 @@ fn version_broken(stored: &[u8], h: &[u8]) -> bool
 
 // The one rule of the first block that asks what is stored of the sender.
 pub fn rule_6(stored: &[u8], h: &[u8]) -> bool
-    ensures { λ r. ⌜ r ≡ rule6 (now (stored .entry) ∷ []) (now (h .entry)) ⌝ }
+    ensures { λ r. ⌜ r ≡ rule6 (now (stored .entry)) (now (h .entry)) ⌝ }
 {
-    !id_well_formed(id_of(h)) | version_broken(stored, h)
+    !id_well_formed(id_of(h)) | id_or_version_broken(stored, h)
 }

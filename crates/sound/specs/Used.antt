@@ -8,11 +8,11 @@ use Rattle.laws.specs.Bytes.{part}
 use Rattle.paper.specs.Check.{checkRight}
 use Rattle.paper.specs.Layout.{Bytes, Block, blocks}
 use Rattle.paper.specs.Book.{isSender, isSeries}
-use Rattle.paper.specs.Sound.{daySound, senderFields, senderDay, countSound, seriesSound, usedSound, sameSender, sameSeries}
+use Rattle.paper.specs.Sound.{daySound, senderFields, senderDayAndNets, countSound, seriesSound, usedSound, sameSender, sameSeries}
 
 -- a used slot, a sender's count excepted
 unfoldable pub usedFields : Block → List Block → Block → Bool
-usedFields d us b = cond (isSender b) (senderFields d b and senderDay d b) (isSeries b and seriesSound d us b)
+usedFields d us b = cond (isSender b) (senderFields d b and senderDayAndNets d b) (isSeries b and seriesSound d us b)
 
 -- a sender's count
 unfoldable pub countRight : List Block → Block → Bool

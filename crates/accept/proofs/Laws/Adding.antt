@@ -12,8 +12,8 @@ use Rattle.laws.specs.Tests.Laws.{split, is-yes, is-no, is-equal, is-other}
 use Rattle.laws.specs.Lists.{keep, has, place}
 use Rattle.laws.specs.Lists.Laws.{keep-append, map-append, has-keep-and, has-no-place, place-positive}
 use Rattle.paper.specs.Layout.{Block, pair, withSendersSlot}
-use Rattle.paper.specs.Book.{isSeriesOf}
-use Rattle.paper.specs.Rules.{pairIs, isNew}
+use Rattle.paper.specs.Book.{isSeriesOf, pairIs}
+use Rattle.paper.specs.Rules.{isNew}
 use Rattle.paper.specs.Acceptance.{senderKept}
 use Rattle.index.specs.Linked.{keyOf, ownWith, Found}
 use Rattle.accept.specs.Steps.{senderIfNew, addedAt, addedTo}

@@ -15,10 +15,9 @@ use Rattle.laws.specs.Lists.Laws.{find-map, has-map, place-map}
 use Rattle.laws.specs.Loops.{placeFrom, done, done-seen}
 use Rattle.laws.specs.Bytes.Laws.{little-length}
 use Rattle.paper.specs.Layout.{Bytes, Block, kind, sendersSlot, pair, quantities, withMark}
-use Rattle.paper.specs.Book.{isSeries}
-use Rattle.paper.specs.Rules.{pairIs}
+use Rattle.paper.specs.Book.{isSeries, pairIs, isSeriesOfPair}
 use Rattle.paper.specs.Marks.{isCounterpart, counterpart, counterpartSlot, markOf, markIn}
-use Rattle.paper.specs.Acceptance.{isSeriesOfPair, touched, remarked}
+use Rattle.paper.specs.Acceptance.{touched, remarked}
 use Rattle.facts.specs.Layout.{kind-with-mark, senders-slot-with-mark, pair-with-mark, quantities-with-mark}
 use Rattle.index.specs.Linked.{bucket, seriesIn, Heads, Nexts, Links}
 use Rattle.accept.specs.Steps.{touchedBy, Other, Others}

@@ -9,8 +9,7 @@ use Rattle.laws.specs.Lists.{place, All}
 use Rattle.laws.specs.Lists.Laws.{all-imply, has-no-find, place-agree, place-none, place-find}
 use Rattle.laws.specs.Loops.{done}
 use Rattle.paper.specs.Layout.{Block, sender, pair, withSendersSlot}
-use Rattle.paper.specs.Book.{isSenderBlockOf, isSeriesOf}
-use Rattle.paper.specs.Rules.{pairIs}
+use Rattle.paper.specs.Book.{isSenderBlockOf, isSeriesOf, pairIs}
 use Rattle.paper.specs.Acceptance.{senderKept, replaced, renewed}
 use Rattle.index.specs.Linked.{keyOf, ownWith, Found}
 use Rattle.accept.specs.Steps.{Numbers}

@@ -11,9 +11,8 @@ use Rattle.laws.specs.Tests.Laws.{split, and-no-left, is-same}
 use Rattle.laws.specs.Lists.{find, has, All}
 use Rattle.laws.specs.Lists.Laws.{all-each, all-both, all-find, find-passes, has-agree, has-map, has-keep-and, same-yes, place-length}
 use Rattle.paper.specs.Layout.{Bytes, Block, sender, pair, withSendersSlot}
-use Rattle.paper.specs.Book.{isSeries, isSenderBlockOf, slotOf, isSeriesOf, ownSeries}
-use Rattle.paper.specs.Rules.{pairIs}
-use Rattle.paper.specs.Acceptance.{slotFor, senderKept, replaced, renewed, fresh, placed, isSeriesOfPair}
+use Rattle.paper.specs.Book.{isSeries, isSenderBlockOf, slotOf, isSeriesOf, ownSeries, pairIs, isSeriesOfPair}
+use Rattle.paper.specs.Acceptance.{slotFor, senderKept, replaced, renewed, fresh, placed}
 use Rattle.facts.specs.Layout.{senders-slot-with-senders-slot, kind-with-senders-slot, pair-with-senders-slot, kind-with-nets}
 use Rattle.facts.specs.Book.{sender-kind, kind-sender, sender-not-series, sender-block-sender, series-of-other}
 use Rattle.accept.specs.Fits.{Placing}

@@ -14,9 +14,9 @@ use Rattle.laws.specs.Tests.Laws.{split, clash, or-no, less-yes, less-no}
 use Rattle.laws.specs.Lists.{find, has, keep, place, All}
 use Rattle.laws.specs.Lists.Laws.{all-imply, all-each, all-append, all-keep, all-map, all-find, all-getD-inside, find-passes, has-yes, has-append, has-agree, has-map, has-keep-and, getD-map}
 use Rattle.paper.specs.Layout.{Bytes, Block, sender, sendersSlot, pair, withSendersSlot}
-use Rattle.paper.specs.Book.{isSeries, isSenderBlockOf, isSeriesOf, ownSeries}
-use Rattle.paper.specs.Rules.{pairIs, isNew}
-use Rattle.paper.specs.Acceptance.{slotFor, senderKept, replaced, renewed, fresh, placed, isSeriesOfPair}
+use Rattle.paper.specs.Book.{isSeries, isSenderBlockOf, isSeriesOf, ownSeries, pairIs, isSeriesOfPair}
+use Rattle.paper.specs.Rules.{isNew}
+use Rattle.paper.specs.Acceptance.{slotFor, senderKept, replaced, renewed, fresh, placed}
 use Rattle.facts.specs.Layout.{senders-slot-with-senders-slot}
 use Rattle.facts.specs.Book.{series-of-slot}
 use Rattle.accept.specs.Fits.{Placing}

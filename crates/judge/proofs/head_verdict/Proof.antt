@@ -1,10 +1,12 @@
 -- The four rules are joined in their order.
 use Rattle.laws.specs.Kit.{needs}
+use Rattle.paper.specs.Rules.{headVerdict}
 use Rattle.judge.proofs.Laws.{broken-by, then-two}
 use Rattle.judge.proofs.head_verdict.Statement.{statement}
 use Rattle.judge.proofs.head_verdict.Tie as tie
 
 returns : tie.Need-returns
+unfolding headVerdict
 returns c =
     let v6 = c .before .before .before in
     let v5 = v6 .before .before in

@@ -1,6 +1,6 @@
 -- The bytes compared are the pair.
 use borrow.Author.Needs.{needs}
-use Rattle.paper.specs.Rules.{pairIs}
+use Rattle.paper.specs.Book.{pairIs}
 use Rattle.marks.proofs.pair_is.Statement.{statement}
 use Rattle.marks.proofs.pair_is.Tie as tie
 

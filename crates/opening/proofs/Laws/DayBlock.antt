@@ -10,7 +10,7 @@ use Rattle.laws.specs.Lists.{every}
 use Rattle.laws.specs.Bytes.{part, value, little, number}
 use Rattle.laws.specs.Bytes.Laws.{little-length, value-little}
 use Rattle.paper.specs.Check.{sealed}
-use Rattle.paper.specs.Layout.{Bytes, zeros, kind, nOf, lead, clock, dayOfBook, area, receiver, dayZeros}
+use Rattle.paper.specs.Layout.{Bytes, zeros, kind, nOf, lead, clockPlus10080, dayOfBook, area, receiver, dayZeros}
 use Rattle.paper.specs.Opening.{Opening, dayBlockOf}
 use Rattle.facts.specs.Check.{part-sealed}
 use Rattle.opening.specs.Sized.{Sized}
@@ -46,8 +46,8 @@ module _ (o : Opening) (s : Sized (o .day) (o .area) (o .receiver)) where
   unfolding lead number part little
   lead-of h = ap value (field 2 2 (omega arith) ∙ part-here (little 2 (o .lead)) [] 2 (little-length 2 (o .lead))) ∙ value-little 2 (o .lead) h
 
-  pub clock-of : clock (dayBlockOf o) ≡ 0
-  unfolding clock number part value little
+  pub clock-of : clockPlus10080 (dayBlockOf o) ≡ 0
+  unfolding clockPlus10080 number part value little
   clock-of = ap value (field 4 2 (omega arith))
 
   pub day-of : dayOfBook (dayBlockOf o) ≡ o .day

@@ -9,8 +9,7 @@ use Rattle.laws.specs.Tests.Laws.{split, is-yes, is-no}
 use Rattle.laws.specs.Lists.{place}
 use Rattle.laws.specs.Slices.{part-past}
 use Rattle.paper.specs.Layout.{Bytes, Block, quantities, entry}
-use Rattle.paper.specs.Book.{slotOf, numbered}
-use Rattle.paper.specs.Acceptance.{isSeriesOfPair}
+use Rattle.paper.specs.Book.{slotOf, numbered, isSeriesOfPair}
 use Rattle.paper.specs.Finals.{finalOf, held, isHeld, heldAt, finalRefused}
 use Rattle.read.specs.Held.{finalHeld}
 use Rattle.read.proofs.Laws.Found.{found-none, found-some}

@@ -1,13 +1,14 @@
 -- The entries up to n, and the positions above n as one part.
 use Rattle.laws.specs.Kit.{needs}
 use Rattle.laws.specs.Tests.{_and_}
-use Rattle.paper.specs.Ranges.{entriesAllowed}
+use Rattle.paper.specs.Layout.{net, quantity}
+use Rattle.paper.specs.Ranges.{netsAllowed}
 use Rattle.forms.specs.Entries.{entryAllowed}
 use Rattle.forms.proofs.entries.nets_allowed.Statement.{statement}
 use Rattle.forms.proofs.entries.nets_allowed.Tie as tie
 
 returns : tie.Need-returns
-unfolding entriesAllowed entryAllowed _and_
+unfolding netsAllowed net quantity entryAllowed _and_
 returns c = cc
 
 pub nets-allowed-spec : {M : Type 1} → statement M

@@ -1,13 +1,13 @@
 -- The entries up to n, and the positions above n as one part.
 use Rattle.laws.specs.Kit.{needs}
 use Rattle.laws.specs.Tests.{_and_}
-use Rattle.paper.specs.Ranges.{entriesAllowed}
+use Rattle.paper.specs.Ranges.{quantitiesAllowed}
 use Rattle.forms.specs.Entries.{entryAllowed}
 use Rattle.forms.proofs.entries.quantities_allowed.Statement.{statement}
 use Rattle.forms.proofs.entries.quantities_allowed.Tie as tie
 
 returns : tie.Need-returns
-unfolding entriesAllowed entryAllowed _and_
+unfolding quantitiesAllowed entryAllowed _and_
 returns c = cc
 
 pub quantities-allowed-spec : {M : Type 1} → statement M

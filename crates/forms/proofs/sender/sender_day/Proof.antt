@@ -1,12 +1,12 @@
 -- The tests are the definition's.
 use Rattle.laws.specs.Kit.{needs}
 use Rattle.laws.specs.Tests.{_and_}
-use Rattle.paper.specs.Sound.{senderDay}
+use Rattle.paper.specs.Sound.{senderDayAndNets}
 use Rattle.forms.proofs.sender.sender_day.Statement.{statement}
 use Rattle.forms.proofs.sender.sender_day.Tie as tie
 
 returns : tie.Need-returns
-unfolding senderDay _and_
+unfolding senderDayAndNets _and_
 returns c = cc
 
 pub sender-day-spec : {M : Type 1} → statement M

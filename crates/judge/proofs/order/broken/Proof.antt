@@ -1,4 +1,4 @@
--- The branch is the definition's.
+-- The branch is the definition's, and the code the table's.
 use Rattle.laws.specs.Kit.{needs}
 use Rattle.paper.specs.Rules.{broken}
 use Rattle.judge.proofs.order.broken.Statement.{statement}
@@ -9,6 +9,7 @@ unfolding broken
 broken-spec =
     tie.close
     (tie.spec
-    (λ c. rw (c .if1 .taken))
+    (search needs)
+    (λ c. rw (c .before .if1 .taken, c .reason-code .ensures))
     (search needs)
     (λ c. rw (c .before .if1 .left) (c .fine .ensures)))

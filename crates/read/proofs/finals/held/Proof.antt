@@ -3,8 +3,7 @@ use Rattle.laws.specs.Kit.{needs, arith, _≡_, false, _++_, _≤_, _-_, _/_, l
 use Rattle.laws.specs.Lists.{has}
 use Rattle.laws.specs.Cut.{cut}
 use Rattle.laws.specs.Loops.{search-start, search-miss, search-place, search-end-place}
-use Rattle.paper.specs.Book.{slotOf}
-use Rattle.paper.specs.Acceptance.{isSeriesOfPair}
+use Rattle.paper.specs.Book.{slotOf, isSeriesOfPair}
 use Rattle.read.proofs.finals.held.Statement.{statement}
 use Rattle.read.proofs.finals.held.Tie as tie
 

@@ -1,9 +1,7 @@
 -- Where the sender's slot differs, the rest of the test does not matter.
 use Rattle.laws.specs.Kit.{needs, sym, told, denied}
 use Rattle.laws.specs.Tests.{_and_}
-use Rattle.paper.specs.Book.{isSeriesOf}
-use Rattle.paper.specs.Rules.{pairIs}
-use Rattle.paper.specs.Acceptance.{isSeriesOfPair}
+use Rattle.paper.specs.Book.{isSeriesOf, pairIs, isSeriesOfPair}
 use Rattle.read.proofs.finals.is_series_of_pair.Statement.{statement}
 use Rattle.read.proofs.finals.is_series_of_pair.Tie as tie
 

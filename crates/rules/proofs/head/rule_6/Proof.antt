@@ -1,13 +1,12 @@
--- The stored block is the first, and only, of the sender's own.
+-- The id's form and what is stored, joined as the rule joins them.
 use Rattle.laws.specs.Kit.{needs}
 use Rattle.laws.specs.Tests.{_or_, neg}
-use Rattle.paper.specs.Book.{numbered}
 use Rattle.paper.specs.Rules.{rule6}
 use Rattle.rules.proofs.head.rule_6.Statement.{statement}
 use Rattle.rules.proofs.head.rule_6.Tie as tie
 
 pub rule-6-spec : {M : Type 1} → statement M
-unfolding rule6 numbered _or_ neg
+unfolding rule6 _or_ neg
 rule-6-spec =
     tie.close
     (tie.spec
