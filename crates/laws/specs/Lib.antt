@@ -1,4 +1,4 @@
--- General definitions and laws: no word of the desk. A file X holds definitions alone, X/Laws what follows from them.
+-- General definitions and laws: no word of the desk. A file X holds definitions alone, the files below X/ what follows from them.
 pub mod Tests
 pub mod Lists
 pub mod Bytes
@@ -7,4 +7,5 @@ pub mod Order
 pub mod Table
 pub mod Slices
 pub mod Loops
+pub mod InPlace
 pub mod Kit

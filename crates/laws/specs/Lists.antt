@@ -1,5 +1,10 @@
 -- Lists searched, sieved and compared by tests.
-pub mod Laws
+pub mod Same
+pub mod Each
+pub mod Search
+pub mod Apart
+pub mod Count
+pub mod Keep
 use mathlib.Core.Bool.{Bool, true, false, cond}
 use mathlib.Core.Option.{Option, none, some}
 use mathlib.Core.List.{List, [], _∷_}

@@ -9,7 +9,7 @@ use lib.ListN.{length, take, drop, length-drop, take-append-drop, drop-of-length
 use lib.Seq.{take-all, take-nil, drop-drop, set-out}
 use Rattle.laws.specs.Tests.{_and_}
 use Rattle.laws.specs.Lists.{same}
-use Rattle.laws.specs.Lists.Laws.{same-split}
+use Rattle.laws.specs.Lists.Same.{same-split}
 use Rattle.laws.specs.Bytes.{part, written, value, number}
 use Rattle.laws.specs.Bytes.Laws.{part-drop, part-rest, take-written, drop-written-inner}
 

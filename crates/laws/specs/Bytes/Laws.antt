@@ -8,7 +8,7 @@ use native.Mathlib.Omega.{arith}
 use lib.ListN.{length, take, drop, getD, set, length-set, length-take, length-drop, take-append-drop, drop-of-length-le}
 use lib.Seq.{sets, length-sets, sets-eq, set-append-left, getD-take, getD-drop, drop-set-lt, drop-set-add, take-set-le, take-set-lt, drop-at, take-at, length-take-le, take-append-le, drop-append-le, drop-append-add, take-nil, take-take, take-all, take-add, drop-drop, set-comm}
 use Rattle.laws.specs.Lists.{All}
-use Rattle.laws.specs.Lists.Laws.{drop-take, all-take, all-drop}
+use Rattle.laws.specs.Lists.Each.{drop-take, all-take, all-drop}
 use Rattle.laws.specs.Bytes.{part, written, value, little, number}
 
 -- ---- a part

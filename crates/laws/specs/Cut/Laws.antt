@@ -10,7 +10,7 @@ use lib.ListN.{length, take, drop, getD, set, length-append, length-drop, take-a
 use lib.Seq.{drop-cons, drop-drop, take-suc, take-take, take-at, drop-at, length-take-le, take-append-le, drop-append-le}
 use Rattle.laws.specs.Tests.Laws.{lt-or}
 use Rattle.laws.specs.Lists.{All}
-use Rattle.laws.specs.Lists.Laws.{drop-take, all-take, all-drop, all-append}
+use Rattle.laws.specs.Lists.Each.{drop-take, all-take, all-drop, all-append}
 use Rattle.laws.specs.Bytes.{part, written, number}
 use Rattle.laws.specs.Bytes.Laws.{part-part, part-written-outer, take-written, drop-written, take-written-inner, drop-written-inner, written-all, written-length, number-part}
 use Rattle.laws.specs.Cut.{chunks, cut, join, block}

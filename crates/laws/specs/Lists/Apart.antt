@@ -1,0 +1,67 @@
+-- No element clashes with a later one.
+use mathlib.Core.Path.{_≡_, refl, sym, _∙_}
+use mathlib.Core.Bool.{Bool, true, false}
+use mathlib.Core.List.{List, [], _∷_, _++_, map}
+use Prim.Native.Nat.{ℕ, zero, suc, _<_}
+use native.Mathlib.Omega.{arith}
+use lib.ListN.{length, getD}
+use Rattle.laws.specs.Tests.{neg}
+use Rattle.laws.specs.Tests.Laws.{split, clash, and-left, and-right, and-both, neg-yes, neg-true}
+use Rattle.laws.specs.Lists.{further, place, apart, keep, All}
+use Rattle.laws.specs.Lists.Each.{all-imply, all-each, all-append, all-getD-inside, every-all, all-every, every-append, every-keep, all-map}
+
+module _ {A : Type 0} where
+  pub apart-append : (c : A → A → Bool) (l r : List A) → apart c l ≡ true → apart c r ≡ true → All (λ x. All (λ y. c x y ≡ false) r) l → apart c (l ++ r) ≡ true
+  unfolding apart
+  apart-append c [] r a b h = b
+  apart-append c (x ∷ xs) r a b h =
+      and-both _ _
+      (all-every (λ y. neg (c x y)) (xs ++ r) (all-append (λ y. neg (c x y) ≡ true) xs r (every-all _ xs (and-left _ _ a)) (all-imply (λ y. c x y ≡ false) (λ y. neg (c x y) ≡ true) (λ y e. neg-true _ e) r (h .0))))
+      (apart-append c xs r (and-right _ _ a) b (h .1))
+
+  pub apart-append-left : (c : A → A → Bool) (l r : List A) → apart c (l ++ r) ≡ true → apart c l ≡ true
+  unfolding apart
+  apart-append-left c [] r a = refl
+  apart-append-left c (x ∷ xs) r a = and-both _ _ (and-left _ _ (sym (every-append (λ y. neg (c x y)) xs r) ∙ and-left _ _ a)) (apart-append-left c xs r (and-right _ _ a))
+
+  pub apart-append-right : (c : A → A → Bool) (l r : List A) → apart c (l ++ r) ≡ true → apart c r ≡ true
+  unfolding apart
+  apart-append-right c [] r a = a
+  apart-append-right c (x ∷ xs) r a = apart-append-right c xs r (and-right _ _ a)
+
+  pub apart-keep : (c : A → A → Bool) (p : A → Bool) (l : List A) → apart c l ≡ true → apart c (keep p l) ≡ true
+  unfolding apart keep
+  apart-keep c p [] a = refl
+  apart-keep c p (x ∷ xs) a =
+      split (p x) (λ t. rw t (and-both _ _ (every-keep (λ y. neg (c x y)) p xs (and-left _ _ a)) (apart-keep c p xs (and-right _ _ a)))) (λ t. rw t (apart-keep c p xs (and-right _ _ a)))
+
+  -- none clash, where a clash wants a test that all fail
+  pub apart-none : (c : A → A → Bool) (p : A → Bool) → ((x y : A) → c x y ≡ true → p x ≡ true) → (l : List A) → All (λ x. p x ≡ false) l → apart c l ≡ true
+  unfolding apart
+  apart-none c p g [] h = refl
+  apart-none c p g (x ∷ xs) h =
+      and-both _ _ (all-every (λ y. neg (c x y)) xs (all-each (λ y. neg (c x y) ≡ true) (λ y. neg-true _ (split (c x y) (λ t. clash (g x y t) (h .0)) (λ t. t))) xs)) (apart-none c p g xs (h .1))
+
+  -- the element at k is the first that passes a test, where all that do not clash with it fail the test
+  pub apart-place : (c : A → A → Bool) (p : A → Bool) (l : List A) (k : ℕ) (d : A) → k < length l → p (getD l k d) ≡ true
+      → ((x : A) → c x (getD l k d) ≡ false → p x ≡ false) → apart c l ≡ true → place p l ≡ suc k
+  unfolding apart place further
+  apart-place c p [] k d h e f a = absurd (omega arith)
+  apart-place c p (x ∷ xs) zero d h e f a = rw e
+  apart-place c p (x ∷ xs) (suc k) d h e f a =
+      let n : p x ≡ false = f x (neg-yes _ (all-getD-inside (λ y. neg (c x y) ≡ true) xs k d (omega arith) (every-all _ xs (and-left _ _ a)))) in
+      rw (n, apart-place c p xs k d (omega arith) e f (and-right _ _ a))
+
+module _ {A B : Type 0} where
+  -- a clash of the new was a clash of the old, for elements with Q
+  pub apart-map : (c : B → B → Bool) (e : A → A → Bool) (f : A → B) (Q : A → Type 0) → ((x y : A) → Q x → Q y → e x y ≡ false → c (f x) (f y) ≡ false)
+      → (l : List A) → All Q l → apart e l ≡ true → apart c (map f l) ≡ true
+  unfolding apart
+  apart-map c e f Q g [] q a = refl
+  apart-map c e f Q g (x ∷ xs) q a =
+      and-both _ _ (all-every (λ y. neg (c (f x) y)) (map f xs) (all-map (λ y. neg (c (f x) y) ≡ true) f xs (one xs (q .1) (every-all _ xs (and-left _ _ a)))))
+      (apart-map c e f Q g xs (q .1) (and-right _ _ a))
+    where
+      one : (l : List A) → All Q l → All (λ y. neg (e x y) ≡ true) l → All (λ y. neg (c (f x) (f y)) ≡ true) l
+      one [] h k = tt
+      one (y ∷ ys) h k = (neg-true _ (g x y (q .0) (h .0) (neg-yes _ (k .0))), one ys (h .1) (k .1))

@@ -1,0 +1,108 @@
+-- The elements that pass a test (keep), and those before the first that passes (until).
+use mathlib.Core.Path.{_≡_, refl, sym, ap, _∙_}
+use mathlib.Core.Bool.{Bool, true, false}
+use mathlib.Core.List.{List, [], _∷_, _++_, map, append-nil}
+use Prim.Native.Nat.{ℕ, zero, suc, _+_, _≤_, _<_}
+use native.Mathlib.Numerals.{add-one}
+use native.Mathlib.Omega.{arith}
+use lib.ListN.{length, take, getD}
+use lib.Seq.{take-suc, take-all}
+use Rattle.laws.specs.Tests.Laws.{split, cond-apply, or-no, or-left, or-right}
+use Rattle.laws.specs.Lists.{has, keep, until, All}
+use Rattle.laws.specs.Lists.Count.{count-keep, count-length}
+
+module _ {A : Type 0} where
+  -- ---- keep
+
+  pub keep-append : (p : A → Bool) (l r : List A) → keep p (l ++ r) ≡ keep p l ++ keep p r
+  unfolding keep
+  keep-append p [] r = refl
+  keep-append p (x ∷ xs) r = split (p x) (λ t. rw t (ap (λ z. x ∷ z) (keep-append p xs r))) (λ t. rw t (keep-append p xs r))
+
+  pub keep-all : (p : A → Bool) (l : List A) → All (λ x. p x ≡ true) l → keep p l ≡ l
+  unfolding keep
+  keep-all p [] h = refl
+  keep-all p (x ∷ xs) h = rw (h .0) (ap (λ z. x ∷ z) (keep-all p xs (h .1)))
+
+  pub keep-none : (p : A → Bool) (l : List A) → has p l ≡ false → keep p l ≡ []
+  unfolding keep has
+  keep-none p [] e = refl
+  keep-none p (x ∷ xs) e = rw (or-left _ _ e) (keep-none p xs (or-right _ _ e))
+
+  pub keep-agree : (p q : A → Bool) (l : List A) → All (λ x. p x ≡ q x) l → keep p l ≡ keep q l
+  unfolding keep
+  keep-agree p q [] h = refl
+  keep-agree p q (y ∷ ys) h = rw (h .0, keep-agree p q ys (h .1))
+
+  pub keep-more-yes : (p : A → Bool) (l : List A) (i : ℕ) (d : A) → i < length l → p (getD l i d) ≡ true → keep p (take (i + 1) l) ≡ keep p (take i l) ++ getD l i d ∷ []
+  unfolding keep
+  keep-more-yes p l i d h e = rw (add-one i, take-suc l i d h) (keep-append p (take i l) (getD l i d ∷ []) ∙ rw e)
+
+  pub keep-more-no : (p : A → Bool) (l : List A) (i : ℕ) (d : A) → i < length l → p (getD l i d) ≡ false → keep p (take (i + 1) l) ≡ keep p (take i l)
+  unfolding keep
+  keep-more-no p l i d h e = rw (add-one i, take-suc l i d h) (keep-append p (take i l) (getD l i d ∷ []) ∙ rw e (append-nil (keep p (take i l))))
+
+  pub keep-length : (p : A → Bool) (l : List A) → length (keep p l) ≤ length l
+  keep-length p l = omega (arith, count-keep p l, count-length p l)
+
+  pub keep-take-length : (p : A → Bool) (l : List A) (k : ℕ) → length (keep p (take k l)) ≤ length (keep p l)
+  unfolding keep
+  keep-take-length p [] zero = omega arith
+  keep-take-length p [] (suc k) = omega arith
+  keep-take-length p (y ∷ ys) zero = omega arith
+  keep-take-length p (y ∷ ys) (suc k) = split (p y) (λ t. rw t (omega (arith, keep-take-length p ys k))) (λ t. rw t (keep-take-length p ys k))
+
+  -- ---- until
+
+  pub until-length : (p : A → Bool) (l : List A) → length (until p l) ≤ length l
+  unfolding until
+  until-length p [] = omega arith
+  until-length p (x ∷ xs) = split (p x) (λ e. rw e (omega arith)) (λ e. rw e (omega (arith, until-length p xs)))
+
+  pub until-has : (p : A → Bool) (l : List A) → has p (until p l) ≡ false
+  unfolding until has
+  until-has p [] = refl
+  until-has p (x ∷ xs) = split (p x) (λ t. rw t) (λ t. rw t (or-no _ _ t (until-has p xs)))
+
+  pub until-append : (p : A → Bool) (l r : List A) → All (λ x. p x ≡ false) l → All (λ x. p x ≡ true) r → until p (l ++ r) ≡ l
+  unfolding until
+  until-append p [] [] h k = refl
+  until-append p [] (y ∷ ys) h k = rw (k .0)
+  until-append p (x ∷ xs) r h k = rw (h .0) (ap (λ z. x ∷ z) (until-append p xs r (h .1) k))
+
+  pub until-take : (p : A → Bool) (l : List A) (u : ℕ) → u ≡ length (until p l) → take u l ≡ until p l
+  unfolding until
+  until-take p l u e = rw e (by l)
+    where
+      by : (r : List A) → take (length (until p r)) r ≡ until p r
+      by [] = refl
+      by (x ∷ xs) = split (p x) (λ t. rw t) (λ t. rw t (ap (λ z. x ∷ z) (by xs)))
+
+  pub until-all : (p : A → Bool) (l : List A) → has p l ≡ false → until p l ≡ l
+  unfolding until has
+  until-all p [] e = refl
+  until-all p (x ∷ xs) e = rw (or-left _ _ e) (ap (λ z. x ∷ z) (until-all p xs (or-right _ _ e)))
+
+  -- a search that passed i elements by and stops at i
+  pub until-hit : (p : A → Bool) (l : List A) (i : ℕ) (d : A) → i < length l → has p (take i l) ≡ false → p (getD l i d) ≡ true → i ≡ length (until p l)
+  unfolding until has
+  until-hit p [] i d h e f = absurd (omega arith)
+  until-hit p (x ∷ xs) zero d h e f = rw f
+  until-hit p (x ∷ xs) (suc i) d h e f = rw (or-left _ _ e) (ap suc (until-hit p xs i d (omega arith) (or-right _ _ e) f))
+
+  -- a search that passed all by
+  pub until-end : (p : A → Bool) (l : List A) (i : ℕ) → i ≡ length l → has p (take i l) ≡ false → i ≡ length (until p l)
+  until-end p l i z e = z ∙ sym (ap length (until-all p l (rw (take-all i l (omega arith)) at e)))
+
+module _ {A B : Type 0} where
+  -- ---- of elements that are changed
+
+  pub keep-map : (f : A → B) (p : B → Bool) (l : List A) → keep p (map f l) ≡ map f (keep (λ x. p (f x)) l)
+  unfolding keep
+  keep-map f p [] = refl
+  keep-map f p (x ∷ xs) = rw (keep-map f p xs) (sym (cond-apply (map f) (p (f x)) (x ∷ keep (λ y. p (f y)) xs) (keep (λ y. p (f y)) xs)))
+
+  pub until-map : (f : A → B) (p : B → Bool) (l : List A) → until p (map f l) ≡ map f (until (λ x. p (f x)) l)
+  unfolding until
+  until-map f p [] = refl
+  until-map f p (x ∷ xs) = rw (until-map f p xs) (sym (cond-apply (map f) (p (f x)) [] (x ∷ until (λ y. p (f y)) xs)))

@@ -1,0 +1,242 @@
+-- The first element that passes a test: whether there is one (has), which it is (find), at what place it stands (place).
+use mathlib.Core.Path.{_≡_, refl, sym, ap, _∙_}
+use mathlib.Core.Bool.{Bool, true, false, cond, true≢false, false≢true}
+use mathlib.Core.Option.{none, some, Option·map}
+use mathlib.Core.List.{List, [], _∷_, _++_, map}
+use Prim.Native.Nat.{ℕ, zero, suc, _-_, _≤_, _<_}
+use native.Mathlib.Omega.{arith}
+use lib.ListN.{length, getD}
+use Rattle.laws.specs.Tests.{_and_, _or_, neg}
+use Rattle.laws.specs.Tests.Laws.{split, clash, cond-apply, or-no, or-left, or-right, or-else, neg-false}
+use Rattle.laws.specs.Lists.{further, find, place, nth, has, every, keep, All}
+use Rattle.laws.specs.Lists.Each.{all-imply, all-each, all-getD-inside, all-find, every-all, nth-getD}
+
+module _ {A : Type 0} where
+  -- ---- has
+
+  pub has-yes : (p : A → Bool) (l : List A) → has p l ≡ true → (x : A) × (find p l ≡ some x)
+  unfolding has find _or_
+  has-yes p [] e = absurd (false≢true e)
+  has-yes p (y ∷ ys) e = split (p y) (λ t. (y, rw t)) (λ t. let r : (x : A) × (find p ys ≡ some x) = has-yes p ys (rw t at e) in (r .0, rw t (r .1)))
+
+  pub has-no-find : (p : A → Bool) (l : List A) → has p l ≡ false → find p l ≡ none
+  unfolding has find
+  has-no-find p [] e = refl
+  has-no-find p (y ∷ ys) e = rw (or-left _ _ e) (has-no-find p ys (or-right _ _ e))
+
+  pub has-no-place : (p : A → Bool) (l : List A) → has p l ≡ false → place p l ≡ zero
+  unfolding has place further
+  has-no-place p [] e = refl
+  has-no-place p (y ∷ ys) e = rw (or-left _ _ e, has-no-place p ys (or-right _ _ e))
+
+  pub has-no-all : (p : A → Bool) (l : List A) → has p l ≡ false → All (λ x. p x ≡ false) l
+  unfolding has
+  has-no-all p [] e = tt
+  has-no-all p (y ∷ ys) e = (or-left _ _ e, has-no-all p ys (or-right _ _ e))
+
+  pub all-has-no : (p : A → Bool) (l : List A) → All (λ x. p x ≡ false) l → has p l ≡ false
+  unfolding has
+  all-has-no p [] h = refl
+  all-has-no p (y ∷ ys) h = or-no _ _ (h .0) (all-has-no p ys (h .1))
+
+  -- where all pass, none fails
+  pub every-has-no : (p : A → Bool) (l : List A) → every p l ≡ true → has (λ x. neg (p x)) l ≡ false
+  every-has-no p l e = all-has-no _ l (all-imply (λ x. p x ≡ true) (λ x. neg (p x) ≡ false) (λ x. neg-false (p x)) l (every-all p l e))
+
+  pub every-neg : (p : A → Bool) (l : List A) → every (λ x. neg (p x)) l ≡ neg (has p l)
+  unfolding every has neg _and_ _or_
+  every-neg p [] = refl
+  every-neg p (x ∷ xs) = split (p x) (λ t. rw t) (λ t. rw t (every-neg p xs))
+
+  pub has-append : (p : A → Bool) (l r : List A) → has p (l ++ r) ≡ (has p l or has p r)
+  unfolding has _or_
+  has-append p [] r = refl
+  has-append p (y ∷ ys) r = split (p y) (λ t. rw t) (λ t. rw t (has-append p ys r))
+
+  pub has-append-left : (p : A → Bool) (l r : List A) → has p (l ++ r) ≡ false → has p l ≡ false
+  has-append-left p l r e = or-left _ _ (sym (has-append p l r) ∙ e)
+
+  pub has-append-right : (p : A → Bool) (l r : List A) → has p (l ++ r) ≡ false → has p r ≡ false
+  has-append-right p l r e = or-right _ _ (sym (has-append p l r) ∙ e)
+
+  pub has-getD : (p : A → Bool) (l : List A) (k : ℕ) (d : A) → k < length l → p (getD l k d) ≡ true → has p l ≡ true
+  has-getD p l k d h e = split (has p l) (λ t. t) (λ t. clash e (all-getD-inside (λ x. p x ≡ false) l k d h (has-no-all p l t)))
+
+  -- tests that agree on the list
+  pub has-agree : (p q : A → Bool) (l : List A) → All (λ x. p x ≡ q x) l → has p l ≡ has q l
+  unfolding has
+  has-agree p q [] h = refl
+  has-agree p q (y ∷ ys) h = rw (h .0, has-agree p q ys (h .1))
+
+  -- one passes a test and another test does not let it through
+  pub has-other : (p q : A → Bool) (l : List A) → has p l ≡ false → has q l ≡ true → (x : A) × (p x ≡ false) × (q x ≡ true)
+  unfolding has
+  has-other p q [] e f = absurd (false≢true f)
+  has-other p q (y ∷ ys) e f = split (q y) (λ u. (y, or-left _ _ e, u)) (λ u. has-other p q ys (or-right _ _ e) (or-else _ _ f u))
+
+  -- a search of what a sieve lets through
+  pub has-sieve : (p f q : A → Bool) → ((x : A) → f x ≡ true → q x ≡ p x) → ((x : A) → f x ≡ false → q x ≡ false) → (l : List A) → has p (keep f l) ≡ has q l
+  unfolding has keep _or_
+  has-sieve p f q g h [] = refl
+  has-sieve p f q g h (y ∷ ys) =
+      split (f y) (λ t. rw (t, g y t) (ap (λ z. p y or z) (has-sieve p f q g h ys)))
+      (λ t. rw (t, h y t) (has-sieve p f q g h ys))
+
+  -- a sieve that lets through whatever the search is for
+  pub has-keep : (p f : A → Bool) → ((x : A) → p x ≡ true → f x ≡ true) → (l : List A) → has p (keep f l) ≡ has p l
+  has-keep p f h l = has-sieve p f p (λ x t. refl) (λ x t. split (p x) (λ u. clash (h x u) t) (λ u. u)) l
+
+  pub has-keep-and : (p f : A → Bool) (l : List A) → has p (keep f l) ≡ has (λ x. f x and p x) l
+  unfolding _and_
+  has-keep-and p f l = has-sieve p f (λ x. f x and p x) (λ x t. rw t) (λ x t. rw t) l
+
+  -- ---- find
+
+  pub find-passes : (p : A → Bool) (l : List A) (x : A) → find p l ≡ some x → p x ≡ true
+  unfolding find
+  find-passes p [] x e = let z : true ≡ false = cc in absurd (true≢false z)
+  find-passes p (y ∷ ys) x e = split (p y) (λ t. let s : some y ≡ some x = rw t at e in let i : y ≡ x = cc in rw i at t) (λ t. find-passes p ys x (rw t at e))
+
+  pub find-has : (p : A → Bool) (l : List A) (x : A) → find p l ≡ some x → has p l ≡ true
+  find-has p l x e = split (has p l) (λ t. t) (λ t. let z : some x ≡ none = sym e ∙ has-no-find p l t in let w : true ≡ false = cc in absurd (true≢false w))
+
+  -- what is found is there for any test that it passes
+  pub find-has-other : (p q : A → Bool) (l : List A) (x : A) → find p l ≡ some x → q x ≡ true → has q l ≡ true
+  find-has-other p q l x e f = split (has q l) (λ t. t) (λ t. clash f (all-find (λ y. q y ≡ false) p l x (has-no-all q l t) e))
+
+  pub find-append-first : (p : A → Bool) (l r : List A) (x : A) → find p l ≡ some x → find p (l ++ r) ≡ some x
+  unfolding find
+  find-append-first p [] r x e = let z : true ≡ false = cc in absurd (true≢false z)
+  find-append-first p (y ∷ ys) r x e = split (p y) (λ t. rw t (rw t at e)) (λ t. rw t (find-append-first p ys r x (rw t at e)))
+
+  pub find-append-second : (p : A → Bool) (l r : List A) → has p l ≡ false → find p (l ++ r) ≡ find p r
+  unfolding find has
+  find-append-second p [] r e = refl
+  find-append-second p (y ∷ ys) r e = rw (or-left _ _ e) (find-append-second p ys r (or-right _ _ e))
+
+  pub find-append-only : (p : A → Bool) (l r : List A) → has p r ≡ false → find p (l ++ r) ≡ find p l
+  unfolding find
+  find-append-only p [] r e = has-no-find p r e
+  find-append-only p (y ∷ ys) r e = ap (cond (p y) (some y)) (find-append-only p ys r e)
+
+  pub find-agree : (p q : A → Bool) (l : List A) → All (λ x. p x ≡ q x) l → find p l ≡ find q l
+  unfolding find
+  find-agree p q [] h = refl
+  find-agree p q (y ∷ ys) h = rw (h .0, find-agree p q ys (h .1))
+
+  pub find-sieve : (p f q : A → Bool) → ((x : A) → f x ≡ true → q x ≡ p x) → ((x : A) → f x ≡ false → q x ≡ false) → (l : List A) → find p (keep f l) ≡ find q l
+  unfolding find keep
+  find-sieve p f q g h [] = refl
+  find-sieve p f q g h (y ∷ ys) =
+      split (f y) (λ t. rw (t, g y t) (ap (cond (p y) (some y)) (find-sieve p f q g h ys)))
+      (λ t. rw (t, h y t) (find-sieve p f q g h ys))
+
+  pub find-keep : (p f : A → Bool) → ((x : A) → p x ≡ true → f x ≡ true) → (l : List A) → find p (keep f l) ≡ find p l
+  find-keep p f h l = find-sieve p f p (λ x t. refl) (λ x t. split (p x) (λ u. clash (h x u) t) (λ u. u)) l
+
+  pub find-keep-and : (p f : A → Bool) (l : List A) → find p (keep f l) ≡ find (λ x. f x and p x) l
+  unfolding _and_
+  find-keep-and p f l = find-sieve p f (λ x. f x and p x) (λ x t. rw t) (λ x t. rw t) l
+
+-- ---- place
+
+further-positive : (n : ℕ) → zero < n → zero < further n
+unfolding further
+further-positive zero h = h
+further-positive (suc n) h = omega arith
+
+further-length : (n m : ℕ) → n ≤ m → further n ≤ suc m
+unfolding further
+further-length zero m h = omega arith
+further-length (suc n) m h = omega arith
+
+further-suc : (n : ℕ) → further (suc n) ≡ suc (suc n)
+unfolding further
+further-suc n = refl
+
+module _ {A : Type 0} where
+  nth-further : (y : A) (ys : List A) (k : ℕ) → nth (y ∷ ys) (further k) ≡ nth ys k
+  unfolding nth further
+  nth-further y [] zero = refl
+  nth-further y (z ∷ ys) zero = refl
+  nth-further y ys (suc k) = refl
+
+  pub place-positive : (p : A → Bool) (l : List A) → has p l ≡ true → zero < place p l
+  unfolding has place _or_
+  place-positive p [] e = absurd (false≢true e)
+  place-positive p (y ∷ ys) e = split (p y) (λ t. rw t (omega arith)) (λ t. rw t (further-positive _ (place-positive p ys (rw t at e))))
+
+  pub place-length : (p : A → Bool) (l : List A) → place p l ≤ length l
+  unfolding place
+  place-length p [] = omega arith
+  place-length p (y ∷ ys) = split (p y) (λ t. rw t (omega arith)) (λ t. rw t (further-length _ _ (place-length p ys)))
+
+  -- the element at the place of the first that passes is that first
+  pub nth-place : (p : A → Bool) (l : List A) → nth l (place p l) ≡ find p l
+  unfolding nth place find
+  nth-place p [] = refl
+  nth-place p (y ∷ ys) = split (p y) (λ t. rw t) (λ t. rw t (nth-further y ys (place p ys) ∙ nth-place p ys))
+
+  pub place-append-first : (p : A → Bool) (l r : List A) → has p l ≡ true → place p (l ++ r) ≡ place p l
+  unfolding has place _or_
+  place-append-first p [] r e = absurd (false≢true e)
+  place-append-first p (y ∷ ys) r e = split (p y) (λ t. rw t) (λ t. rw (t, place-append-first p ys r (rw t at e)))
+
+  pub place-append-second : (p : A → Bool) (l : List A) (x : A) (r : List A) → has p l ≡ false → p x ≡ true → place p (l ++ x ∷ r) ≡ suc (length l)
+  unfolding has place
+  place-append-second p [] x r e f = rw f
+  place-append-second p (y ∷ ys) x r e f = rw (or-left _ _ e) (ap further (place-append-second p ys x r (or-right _ _ e) f) ∙ further-suc (length ys))
+
+  pub place-append-only : (p : A → Bool) (l r : List A) → has p r ≡ false → place p (l ++ r) ≡ place p l
+  unfolding place
+  place-append-only p [] r e = has-no-place p r e
+  place-append-only p (y ∷ ys) r e = ap (λ n. cond (p y) (suc zero) (further n)) (place-append-only p ys r e)
+
+  pub place-agree : (p q : A → Bool) (l : List A) → All (λ x. p x ≡ q x) l → place p l ≡ place q l
+  unfolding place
+  place-agree p q [] h = refl
+  place-agree p q (y ∷ ys) h = rw (h .0, place-agree p q ys (h .1))
+
+  -- what a place t that was found says
+  module _ (p : A → Bool) (l : List A) (t : ℕ) (e : t ≡ place p l) where
+    pub place-within : t ≤ length l
+    place-within = omega (arith, place-length p l)
+
+    pub place-none : t ≡ 0 → has p l ≡ false
+    place-none z = split (has p l) (λ u. absurd (omega (arith, place-positive p l u))) (λ u. u)
+
+    pub place-some : (t ≡ 0 → ⊥) → has p l ≡ true
+    place-some z = split (has p l) (λ u. u) (λ u. absurd (z (e ∙ has-no-place p l u)))
+
+    pub place-find : (d : A) → (t ≡ 0 → ⊥) → find p l ≡ some (getD l (t - 1) d)
+    place-find d z =
+        let q : t ≡ suc (t - 1) = omega (arith, nonzero t z) in
+        sym (nth-place p l) ∙ ap (nth l) (sym e ∙ q) ∙ nth-getD l (t - 1) d (omega (arith, place-within, nonzero t z))
+      where
+        nonzero : (n : ℕ) → (n ≡ 0 → ⊥) → 0 < n
+        nonzero zero f = absurd (f refl)
+        nonzero (suc n) f = omega arith
+
+    pub place-passes : (d : A) → (t ≡ 0 → ⊥) → p (getD l (t - 1) d) ≡ true
+    place-passes d z = find-passes p l (getD l (t - 1) d) (place-find d z)
+
+module _ {A B : Type 0} where
+  -- ---- of elements that are changed
+
+  pub has-map : (f : A → B) (p : B → Bool) (l : List A) → has p (map f l) ≡ has (λ x. p (f x)) l
+  unfolding has
+  has-map f p [] = refl
+  has-map f p (x ∷ xs) = rw (has-map f p xs)
+
+  pub find-map-all : (f : A → B) (p : B → Bool) (q : A → Bool) (l : List A) → All (λ x. p (f x) ≡ q x) l → find p (map f l) ≡ Option·map f (find q l)
+  unfolding find
+  find-map-all f p q [] h = refl
+  find-map-all f p q (x ∷ xs) h = rw (h .0, find-map-all f p q xs (h .1)) (sym (cond-apply (Option·map f) (q x) (some x) (find q xs)))
+
+  pub find-map : (f : A → B) (p : B → Bool) (q : A → Bool) → ((x : A) → p (f x) ≡ q x) → (l : List A) → find p (map f l) ≡ Option·map f (find q l)
+  find-map f p q h l = find-map-all f p q l (all-each (λ x. p (f x) ≡ q x) h l)
+
+  pub place-map : (f : A → B) (p : B → Bool) (l : List A) → place p (map f l) ≡ place (λ x. p (f x)) l
+  unfolding place
+  place-map f p [] = refl
+  place-map f p (x ∷ xs) = rw (place-map f p xs)
