@@ -7,7 +7,9 @@ use native.Mathlib.Omega.{arith}
 use lib.ListN.{length}
 use Rattle.laws.specs.Tests.Laws.{split}
 use Rattle.laws.specs.Lists.{has, keep, All}
-use Rattle.laws.specs.Lists.Laws.{all-imply, all-each, has-no-place, keep-agree}
+use Rattle.laws.specs.Lists.Each.{all-imply, all-each}
+use Rattle.laws.specs.Lists.Search.{has-no-place}
+use Rattle.laws.specs.Lists.Keep.{keep-agree}
 use Rattle.paper.specs.Layout.{Bytes, Block, sendersSlot}
 use Rattle.paper.specs.Book.{isSender, isSeries, isSenderBlockOf, slotOf, isSeriesOf, ownSeries}
 use Rattle.paper.specs.Sound.{usedSound}

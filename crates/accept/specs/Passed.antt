@@ -9,7 +9,8 @@ use lib.Seq.{length-take-le}
 use Rattle.laws.specs.Tests.{neg}
 use Rattle.laws.specs.Tests.Laws.{and-left, and-right, neg-no, less-no, upto-yes}
 use Rattle.laws.specs.Lists.{has, All}
-use Rattle.laws.specs.Lists.Laws.{all-imply, has-no-all, every-all}
+use Rattle.laws.specs.Lists.Each.{all-imply, every-all}
+use Rattle.laws.specs.Lists.Search.{has-no-all}
 use Rattle.laws.specs.Bytes.{part, number}
 use Rattle.laws.specs.Cut.Laws.{cut-length, cut-widths}
 use Rattle.laws.specs.Order.Laws.{first-left, first-right}

@@ -6,7 +6,7 @@ use Prim.Native.Nat.{ℕ, zero, suc, _+_, _<_}
 use lib.ListN.{length, take, getD}
 use Rattle.laws.specs.Tests.{_and_, _or_, neg, is}
 use Rattle.laws.specs.Lists.{place, has}
-use Rattle.laws.specs.Loops.{over}
+use Rattle.laws.specs.InPlace.{over}
 use Rattle.paper.specs.Layout.{Block, sendersSlot, pair, withSendersSlot}
 use Rattle.paper.specs.Book.{isSeries, pairIs, isSeriesOfPair}
 use Rattle.paper.specs.Acceptance.{senderKept}

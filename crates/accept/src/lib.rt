@@ -7,7 +7,7 @@ ghost use lib.ListN.{length};
 ghost use Rattle.laws.specs.Tests.{is};
 ghost use Rattle.laws.specs.Lists.{until};
 ghost use Rattle.laws.specs.Cut.{cut};
-ghost use Rattle.laws.specs.Loops.{over};
+ghost use Rattle.laws.specs.InPlace.{over};
 ghost use Rattle.paper.specs.Book.{isFree, used};
 ghost use Rattle.paper.specs.Message.{headOf, seriesOf};
 ghost use Rattle.paper.specs.Acceptance.{usedAfter, accepted};

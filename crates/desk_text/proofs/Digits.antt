@@ -11,7 +11,7 @@ use lib.Seq.{drop-cons}
 use Rattle.laws.specs.Tests.{_and_, is, upto}
 use Rattle.laws.specs.Tests.Laws.{less-true, less-false, and-both, upto-true, is-other}
 use Rattle.laws.specs.Lists.{every}
-use Rattle.laws.specs.Lists.Laws.{every-all, all-getD-inside}
+use Rattle.laws.specs.Lists.Each.{every-all, all-getD-inside}
 use Rattle.laws.specs.Bytes.{part, written}
 use Rattle.laws.specs.Bytes.Laws.{written-none, written-last, part-written-same}
 use Rattle.paper.specs.Ids.{digit}

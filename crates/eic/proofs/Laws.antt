@@ -8,7 +8,7 @@ use lib.Seq.{drop-cons, take-all}
 use Rattle.laws.specs.Tests.{_and_, neg, is}
 use Rattle.laws.specs.Tests.Laws.{and-no-right, and-assoc, neg-true, is-yes, is-equal, is-other}
 use Rattle.laws.specs.Lists.{every}
-use Rattle.laws.specs.Lists.Laws.{every-more}
+use Rattle.laws.specs.Lists.Each.{every-more}
 use Rattle.paper.specs.Ids.{hyphen}
 use Rattle.paper.specs.Eic.{characterValue, eicCharacter, weighted, eicSum, eicValid}
 use Rattle.eic.specs.Sum.{knownSum}

@@ -11,7 +11,8 @@ use lib.Seq.{getD-take}
 use Rattle.laws.specs.Tests.{_or_, is}
 use Rattle.laws.specs.Tests.Laws.{is-equal, is-other, upto-true, upto-false, lt-or}
 use Rattle.laws.specs.Lists.{nth, place, until}
-use Rattle.laws.specs.Lists.Laws.{nth-place, place-length, until-take}
+use Rattle.laws.specs.Lists.Search.{nth-place, place-length}
+use Rattle.laws.specs.Lists.Keep.{until-take}
 use Rattle.laws.specs.Bytes.{part}
 use Rattle.laws.specs.Cut.{cut, block}
 use Rattle.laws.specs.Cut.Laws.{cut-length, cut-at, cut-drop}

@@ -9,7 +9,10 @@ use lib.Seq.{take-at, drop-at, drop-drop}
 use Rattle.laws.specs.Tests.{_or_, is}
 use Rattle.laws.specs.Tests.Laws.{split, clash, and-left, and-right, and-both, and-no-left, and-no-right, or-else, is-yes, is-equal, is-other}
 use Rattle.laws.specs.Lists.{same, place, has, until, All}
-use Rattle.laws.specs.Lists.Laws.{same-yes, same-equal, all-until, all-getD, getD-inside, place-positive, place-passes, every-all, until-append, getD-map}
+use Rattle.laws.specs.Lists.Same.{same-yes, same-equal}
+use Rattle.laws.specs.Lists.Each.{all-until, all-getD, getD-inside, every-all, getD-map}
+use Rattle.laws.specs.Lists.Search.{place-positive, place-passes}
+use Rattle.laws.specs.Lists.Keep.{until-append}
 use Rattle.laws.specs.Bytes.{part, value, number}
 use Rattle.laws.specs.Cut.{join}
 use Rattle.laws.specs.Cut.Laws.{cut-length, block-zero, drop-cut, cut-drop, cut-append, join-length, cut-join, cut-widths}

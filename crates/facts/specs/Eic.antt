@@ -10,7 +10,7 @@ use lib.Seq.{take-all, take-suc}
 use Rattle.laws.specs.Tests.{_and_, is, less, upto}
 use Rattle.laws.specs.Tests.Laws.{split, clash, and-left, and-right, and-both, neg-yes, is-yes, is-no, is-equal, is-other, less-true, less-false, upto-yes}
 use Rattle.laws.specs.Lists.{every}
-use Rattle.laws.specs.Lists.Laws.{every-all, all-getD-inside}
+use Rattle.laws.specs.Lists.Each.{every-all, all-getD-inside}
 use Rattle.paper.specs.Layout.{Bytes}
 use Rattle.paper.specs.Ids.{digit, letter, hyphen}
 use Rattle.paper.specs.Eic.{characterValue, eicCharacter, weighted, eicSum, eicValid}

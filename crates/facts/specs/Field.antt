@@ -6,7 +6,7 @@ use native.Mathlib.Omega.{arith}
 use lib.ListN.{length, length-take, length-drop}
 use Rattle.laws.specs.Tests.Laws.{and-left, is-yes}
 use Rattle.laws.specs.Lists.{same}
-use Rattle.laws.specs.Lists.Laws.{same-yes, same-equal}
+use Rattle.laws.specs.Lists.Same.{same-yes, same-equal}
 use Rattle.laws.specs.Bytes.{part}
 use Rattle.laws.specs.Bytes.Laws.{part-length}
 use Rattle.paper.specs.Layout.{Bytes}

@@ -10,7 +10,9 @@ use lib.Seq.{length-take-le, take-at, drop-at, take-all}
 use Rattle.laws.specs.Tests.{_and_, _or_, neg, is, less, upto}
 use Rattle.laws.specs.Tests.Laws.{split, clash, neg-no, neg-false, and-left, and-right, and-both, or-yes-left, or-yes-right, is-yes, is-no, is-same, is-other, upto-yes, upto-true, less-yes, less-no}
 use Rattle.laws.specs.Lists.{All, every, has, until}
-use Rattle.laws.specs.Lists.Laws.{all-imply, all-append, all-every, every-all, every-append, all-getD-inside, has-no-all, until-length, until-has, until-take}
+use Rattle.laws.specs.Lists.Each.{all-imply, all-append, all-every, every-all, every-append, all-getD-inside}
+use Rattle.laws.specs.Lists.Search.{has-no-all}
+use Rattle.laws.specs.Lists.Keep.{until-length, until-has, until-take}
 use Rattle.paper.specs.Layout.{Bytes}
 use Rattle.paper.specs.Ids.{digit}
 use Rattle.paper.specs.QuantityText.{leadingDigits, decimalFrom, readRefused, readAs, worth, pastPoint, pastWhole, unsignedRead, pastMinus, quantityRead}

@@ -10,7 +10,8 @@ use lib.Seq.{length-take-le}
 use Rattle.laws.specs.Tests.{_or_, is}
 use Rattle.laws.specs.Tests.Laws.{split, and-left, and-right, and-both, or-no, or-yes-left, or-yes-right, or-else, is-yes, is-equal, upto-yes, upto-true}
 use Rattle.laws.specs.Lists.{same, apart, All}
-use Rattle.laws.specs.Lists.Laws.{every-all, all-every, until-length}
+use Rattle.laws.specs.Lists.Each.{every-all, all-every}
+use Rattle.laws.specs.Lists.Keep.{until-length}
 use Rattle.paper.specs.Check.{checkRight}
 use Rattle.paper.specs.Layout.{Bytes, Block, blocks, zeros, kind, nOf, lead, clockPlus10080, dayOfBook, area, receiver, dayZeros, version, idOf, sender, dayOfMessage, senderZeros, businessType, contractType, sendersSlot, inArea, outArea, inParty, outParty, pair, agreement, state, first, partner}
 use Rattle.paper.specs.Ranges.{wholeBlocks, nAllowed, leadAllowed, clockAllowed, versionAllowed, quantitiesAllowed, netsAllowed}

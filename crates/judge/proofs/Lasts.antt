@@ -10,7 +10,9 @@ use lib.Seq.{take-all, take-suc}
 use Rattle.laws.specs.Tests.{_and_, _or_, neg, is, less, below}
 use Rattle.laws.specs.Tests.Laws.{split, is-equal, is-other, neg-true, neg-false, or-false}
 use Rattle.laws.specs.Lists.{same, further, find, place, has, count, keep, All}
-use Rattle.laws.specs.Lists.Laws.{all-each, all-imply, has-append, has-agree, has-keep-and, find-keep-and, has-no-place, place-positive, count-map, count-agree}
+use Rattle.laws.specs.Lists.Each.{all-each, all-imply}
+use Rattle.laws.specs.Lists.Search.{has-append, has-agree, has-keep-and, find-keep-and, has-no-place, place-positive}
+use Rattle.laws.specs.Lists.Count.{count-map, count-agree}
 use Rattle.laws.specs.Cut.{cut}
 use Rattle.laws.specs.Cut.Laws.{cut-length}
 use Rattle.paper.specs.Layout.{Bytes, Block, pair}

@@ -10,7 +10,9 @@ use lib.ListN.{length, take, getD}
 use Rattle.laws.specs.Tests.{_and_, _or_, neg, is}
 use Rattle.laws.specs.Tests.Laws.{split, clash, and-left, and-right, and-both, or-no, or-else, or-yes-left, or-yes-right, neg-yes, neg-true, neg-false, is-equal, is-other, is-yes, is-no}
 use Rattle.laws.specs.Lists.{same, further, place, has, keep, every, apart, All}
-use Rattle.laws.specs.Lists.Laws.{all-imply, all-take, all-getD-inside, has-agree, every-all, same-yes, same-refl, has-keep-and}
+use Rattle.laws.specs.Lists.Same.{same-yes, same-refl}
+use Rattle.laws.specs.Lists.Each.{all-imply, all-take, all-getD-inside, every-all}
+use Rattle.laws.specs.Lists.Search.{has-agree, has-keep-and}
 use Rattle.paper.specs.Layout.{Bytes, Block, idOf, pair}
 use Rattle.paper.specs.Ids.{idWellFormed}
 use Rattle.paper.specs.Book.{isSeriesOf, numbered, idIs, pairIs}

@@ -7,7 +7,9 @@ use native.Mathlib.Omega.{arith}
 use lib.ListN.{length, take, drop, length-drop, take-append-drop}
 use Rattle.laws.specs.Tests.Laws.{and-left, and-right, neg-no, neg-true, neg-false, upto-yes}
 use Rattle.laws.specs.Lists.{until, count, All}
-use Rattle.laws.specs.Lists.Laws.{all-imply, every-all, until-length, until-take, until-has, count-append, count-keep, keep-none, keep-all}
+use Rattle.laws.specs.Lists.Each.{all-imply, every-all}
+use Rattle.laws.specs.Lists.Count.{count-append, count-keep}
+use Rattle.laws.specs.Lists.Keep.{until-length, until-take, until-has, keep-none, keep-all}
 use Rattle.laws.specs.Bytes.{part, number}
 use Rattle.laws.specs.Bytes.Laws.{part-rest}
 use Rattle.laws.specs.Cut.{cut}

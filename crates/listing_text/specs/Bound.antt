@@ -7,7 +7,7 @@ use native.Mathlib.Omega.{arith}
 use lib.ListN.{length, length-append}
 use Rattle.laws.specs.Tests.{is, less}
 use Rattle.laws.specs.Tests.Laws.{split, less-no}
-use Rattle.laws.specs.Lists.Laws.{until-length}
+use Rattle.laws.specs.Lists.Keep.{until-length}
 use Rattle.laws.specs.Bytes.Laws.{part-length-most}
 use Rattle.paper.specs.Layout.{Bytes, Block, idOf, sender, sendersSlot, inParty, outParty, state, first, partner}
 use Rattle.paper.specs.Ids.{idText}

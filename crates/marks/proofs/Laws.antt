@@ -4,7 +4,8 @@ use Prim.Native.Nat.{zero, suc}
 use Rattle.laws.specs.Tests.{is}
 use Rattle.laws.specs.Tests.Laws.{is-equal, is-other, is-same, and-left, and-right, and-both}
 use Rattle.laws.specs.Lists.{same}
-use Rattle.laws.specs.Lists.Laws.{same-yes, has-no-find, place-none, place-find}
+use Rattle.laws.specs.Lists.Same.{same-yes}
+use Rattle.laws.specs.Lists.Search.{has-no-find, place-none, place-find}
 use Rattle.laws.specs.Bytes.{little}
 use Rattle.paper.specs.Layout.{Bytes, Block, quantities, entry, quantity}
 use Rattle.paper.specs.Book.{numbered, pairIs}

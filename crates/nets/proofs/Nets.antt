@@ -5,7 +5,9 @@ use Prim.Native.Nat.{suc, _%_}
 use mir.Syntax.{w8}
 use mir.Val.{Fits}
 use Rattle.laws.specs.Lists.{same, total, keep, All}
-use Rattle.laws.specs.Lists.Laws.{all-imply, all-keep, total-keep, total-bound, keep-length}
+use Rattle.laws.specs.Lists.Each.{all-imply, all-keep}
+use Rattle.laws.specs.Lists.Count.{total-keep, total-bound}
+use Rattle.laws.specs.Lists.Keep.{keep-length}
 use Rattle.laws.specs.Bytes.Laws.{number-small}
 use Rattle.laws.specs.Cut.{cut}
 use Rattle.laws.specs.Cut.Laws.{cut-length, cut-all}

@@ -6,7 +6,7 @@ use native.Mathlib.Decide.{ℕ-discrete}
 use lib.ListN.{set}
 use lib.Seq.{getD-set-same, getD-set-other, drop-set-lt, drop-drop, getD-drop, take-all}
 use Rattle.laws.specs.Lists.{total}
-use Rattle.laws.specs.Lists.Laws.{total-more}
+use Rattle.laws.specs.Lists.Count.{total-more}
 use Rattle.laws.specs.Cut.{cut}
 use Rattle.laws.specs.Cut.Laws.{cut-length}
 use Rattle.paper.specs.Layout.{Bytes, Block}

@@ -7,7 +7,7 @@ use lib.ListN.{length-append}
 use Rattle.laws.specs.Tests.{is}
 use Rattle.laws.specs.Tests.Laws.{is-yes}
 use Rattle.laws.specs.Lists.{keep}
-use Rattle.laws.specs.Lists.Laws.{all-imply, every-all, all-getD}
+use Rattle.laws.specs.Lists.Each.{all-imply, every-all, all-getD}
 use Rattle.laws.specs.Bytes.{written, little}
 use Rattle.laws.specs.Bytes.Laws.{written-none, written-append, little-length, written-all}
 use Rattle.paper.specs.Layout.{Bytes, Block, zeros}

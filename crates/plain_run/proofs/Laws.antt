@@ -3,7 +3,7 @@ use Rattle.laws.specs.Kit.{_≡_, ap, _∙_, Bool, true, false, _&&_, [], ℕ, 
 use lib.ListN.{drop-of-length-le}
 use Rattle.laws.specs.Tests.{_and_}
 use Rattle.laws.specs.Lists.{every, until}
-use Rattle.laws.specs.Lists.Laws.{until-take, until-length}
+use Rattle.laws.specs.Lists.Keep.{until-take, until-length}
 use Rattle.laws.specs.Bytes.{part}
 use Rattle.laws.specs.Slices.{rest-slice}
 use Rattle.laws.specs.Cut.{cut}

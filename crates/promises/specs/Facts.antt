@@ -10,7 +10,9 @@ use lib.Seq.{length-take-le}
 use Rattle.laws.specs.Tests.{_and_, _or_, neg, is, less}
 use Rattle.laws.specs.Tests.Laws.{split, clash, and-left, and-right, and-both, and-no, or-left, or-right, or-no, or-yes-left, or-yes-right, or-else, neg-no, neg-true, is-yes, is-equal, less-no, less-true, upto-yes, upto-true}
 use Rattle.laws.specs.Lists.{same, has, apart, All}
-use Rattle.laws.specs.Lists.Laws.{all-imply, all-both, all-append-left, all-append-right, has-no-all, every-all, all-every, until-length}
+use Rattle.laws.specs.Lists.Each.{all-imply, all-both, all-append-left, all-append-right, every-all, all-every}
+use Rattle.laws.specs.Lists.Search.{has-no-all}
+use Rattle.laws.specs.Lists.Keep.{until-length}
 use Rattle.laws.specs.Bytes.Laws.{little-length}
 use Rattle.laws.specs.Cut.Laws.{cut-length, cut-widths}
 use Rattle.laws.specs.Order.Laws.{first-left, first-right, along-all}

@@ -10,7 +10,9 @@ use native.Mathlib.Omega.{arith}
 use Rattle.laws.specs.Tests.{_or_, neg, is, less}
 use Rattle.laws.specs.Tests.Laws.{split, or-left, or-right, or-yes-left, or-yes-right, or-else, neg-yes, neg-true, is-yes, is-no, less-no, upto-no, upto-false}
 use Rattle.laws.specs.Lists.{same, find, has}
-use Rattle.laws.specs.Lists.Laws.{same-yes, all-find, has-yes, has-no-find, find-passes, find-sieve}
+use Rattle.laws.specs.Lists.Same.{same-yes}
+use Rattle.laws.specs.Lists.Each.{all-find}
+use Rattle.laws.specs.Lists.Search.{has-yes, has-no-find, find-passes, find-sieve}
 use Rattle.paper.specs.declared.FinalAnswer.{FinalAnswer}
 use Rattle.paper.specs.Layout.{Bytes, Block, nOf, lead, clockPlus10080, sender, pair, quantities, entry, quantity, withClock}
 use Rattle.paper.specs.Book.{dayBlock, used, slotOf, isSeriesOf, ownSeries, pairIs, isSeriesOfPair}

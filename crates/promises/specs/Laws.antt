@@ -10,7 +10,10 @@ use lib.ListN.{length}
 use Rattle.laws.specs.Tests.{_and_, neg}
 use Rattle.laws.specs.Tests.Laws.{split, clash, and-left, and-right, and-no-right, neg-yes}
 use Rattle.laws.specs.Lists.{find, place, has, apart, count, keep, until, total, All}
-use Rattle.laws.specs.Lists.Laws.{all-imply, all-each, has-agree, place-agree, every-all, count-length, keep-agree, total-agree, total-none, place-map, has-map, keep-map}
+use Rattle.laws.specs.Lists.Each.{all-imply, all-each, every-all}
+use Rattle.laws.specs.Lists.Search.{has-agree, place-agree, place-map, has-map}
+use Rattle.laws.specs.Lists.Count.{count-length, total-agree, total-none}
+use Rattle.laws.specs.Lists.Keep.{keep-agree, keep-map}
 
 -- two tests that agree where a third holds
 pub and-agree : (a b c : Bool) → (c ≡ true → a ≡ b) → (a and c) ≡ (b and c)

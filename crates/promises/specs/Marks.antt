@@ -8,7 +8,8 @@ use Prim.Native.Nat.{ℕ}
 use lib.ListN.{length}
 use Rattle.laws.specs.Tests.Laws.{split, clash, and-both, and-no, or-right, or-yes-left, is-equal}
 use Rattle.laws.specs.Lists.{find, place, has, All}
-use Rattle.laws.specs.Lists.Laws.{all-imply, all-both, all-find, has-no-all, all-has-no, has-append-left, has-append-right, find-passes, find-append-only, place-append-only, all-map, find-map}
+use Rattle.laws.specs.Lists.Each.{all-imply, all-both, all-find, all-map}
+use Rattle.laws.specs.Lists.Search.{has-no-all, all-has-no, has-append-left, has-append-right, find-passes, find-append-only, place-append-only, find-map}
 use Rattle.paper.specs.Layout.{Bytes, Block, sender, sendersSlot, pair, mark, withSendersSlot}
 use Rattle.paper.specs.Book.{isSeries, isSeriesOf, isSeriesOfPair}
 use Rattle.paper.specs.Marks.{isCounterpart, counterpart, counterpartSlot, markIn}

@@ -10,7 +10,8 @@ use lib.ListN.{length, length-append}
 use Rattle.laws.specs.Tests.{upto}
 use Rattle.laws.specs.Tests.Laws.{split, and-both, or-yes-left, or-yes-right, upto-no, upto-true, below-each}
 use Rattle.laws.specs.Lists.{same, total, All}
-use Rattle.laws.specs.Lists.Laws.{all-imply, total-none, total-bound}
+use Rattle.laws.specs.Lists.Each.{all-imply}
+use Rattle.laws.specs.Lists.Count.{total-none, total-bound}
 use Rattle.laws.specs.Bytes.{part, value, little, number}
 use Rattle.laws.specs.Bytes.Laws.{part-all, part-append-left, part-append-right, little-length, value-little}
 use Rattle.paper.specs.Layout.{Bytes, Block, inParty, outParty, entry, quantity, withNets, net}

@@ -8,7 +8,8 @@ use Prim.Native.Nat.{ℕ, _<_}
 use Rattle.laws.specs.Tests.{is}
 use Rattle.laws.specs.Tests.Laws.{split}
 use Rattle.laws.specs.Lists.{same, find, has, keep, All}
-use Rattle.laws.specs.Lists.Laws.{same-yes, same-no, has-yes, find-passes, find-append-first, find-append-second, find-append-only, find-map}
+use Rattle.laws.specs.Lists.Same.{same-yes, same-no}
+use Rattle.laws.specs.Lists.Search.{has-yes, find-passes, find-append-first, find-append-second, find-append-only, find-map}
 use Rattle.paper.specs.Layout.{Bytes, Block, nOf, sender, nets, inParty, outParty, quantity, withSendersSlot}
 use Rattle.paper.specs.Book.{dayBlock, used, isSender, isSeries, isSenderBlockOf, slotOf, isSeriesOf, ownSeries}
 use Rattle.paper.specs.Message.{headOf, seriesOf}

@@ -10,7 +10,8 @@ use lib.Seq.{drop-at}
 use Rattle.laws.specs.Tests.{_and_, is}
 use Rattle.laws.specs.Tests.Laws.{split, clash, and-left, and-right, and-both, and-no, or-else, neg-true}
 use Rattle.laws.specs.Lists.{nth, has}
-use Rattle.laws.specs.Lists.Laws.{all-nth, nth-append-left, has-yes, find-passes, find-has-other, nth-map}
+use Rattle.laws.specs.Lists.Each.{all-nth, nth-append-left, nth-map}
+use Rattle.laws.specs.Lists.Search.{has-yes, find-passes, find-has-other}
 use Rattle.laws.specs.Cut.{join}
 use Rattle.paper.specs.Layout.{Bytes, Block, nOf, sender, sendersSlot, pair}
 use Rattle.paper.specs.Book.{dayBlock, used, isSeries, isSenderBlockOf, slotOf, isSeriesOf, isSeriesOfPair}

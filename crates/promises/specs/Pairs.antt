@@ -7,7 +7,7 @@ use Prim.Native.Nat.{ℕ}
 use Rattle.laws.specs.Tests.{_and_}
 use Rattle.laws.specs.Tests.Laws.{split, and-left, and-right, and-both, and-no-left, is-yes, is-equal, is-same}
 use Rattle.laws.specs.Lists.{find}
-use Rattle.laws.specs.Lists.Laws.{same-yes, same-equal}
+use Rattle.laws.specs.Lists.Same.{same-yes, same-equal}
 use Rattle.paper.specs.Layout.{Bytes, Block, sendersSlot, pair, quantities}
 use Rattle.paper.specs.Book.{isSeries, slotOf, isSeriesOf, pairIs, isSeriesOfPair}
 use Rattle.paper.specs.Marks.{isCounterpart}

@@ -9,7 +9,9 @@ use native.Mathlib.Omega.{arith}
 use Rattle.laws.specs.Tests.{_or_, neg}
 use Rattle.laws.specs.Tests.Laws.{split, clash, and-left, and-right, and-both, or-yes-left, or-yes-right, neg-yes, neg-true}
 use Rattle.laws.specs.Lists.{same, find, place, nth, every, apart, All}
-use Rattle.laws.specs.Lists.Laws.{same-equal, all-imply, all-nth, find-passes, find-agree, place-length, nth-place, place-agree, every-all, all-every}
+use Rattle.laws.specs.Lists.Same.{same-equal}
+use Rattle.laws.specs.Lists.Each.{all-imply, all-nth, every-all, all-every}
+use Rattle.laws.specs.Lists.Search.{find-passes, find-agree, place-length, nth-place, place-agree}
 use Rattle.laws.specs.Bytes.{number}
 use Rattle.paper.specs.Layout.{Bytes, Block, nOf, sender, nets, sendersSlot, pair, mark, partner, quantities}
 use Rattle.paper.specs.Book.{dayBlock, used, isSender, isSeries, slotOf, ownSeries, isSeriesOfPair}

@@ -9,7 +9,7 @@ use lib.ListN.{length}
 use Rattle.laws.specs.Tests.{_and_, is}
 use Rattle.laws.specs.Tests.Laws.{split, and-no-left}
 use Rattle.laws.specs.Lists.{same, find}
-use Rattle.laws.specs.Lists.Laws.{find-map}
+use Rattle.laws.specs.Lists.Search.{find-map}
 use Rattle.laws.specs.Bytes.Laws.{little-length}
 use Rattle.paper.specs.Layout.{Bytes, Block, sendersSlot, pair, quantities, withMark}
 use Rattle.paper.specs.Book.{isSender, isSeries, isSenderBlockOf, isSeriesOfPair}

@@ -10,7 +10,8 @@ use lib.ListN.{length}
 use Rattle.laws.specs.Tests.{_and_, is}
 use Rattle.laws.specs.Tests.Laws.{split, clash}
 use Rattle.laws.specs.Lists.{same, find, has, keep, All}
-use Rattle.laws.specs.Lists.Laws.{all-imply, all-both, all-append, all-keep, all-kept, all-find, find-passes, place-length, all-map}
+use Rattle.laws.specs.Lists.Each.{all-imply, all-both, all-append, all-keep, all-kept, all-find, all-map}
+use Rattle.laws.specs.Lists.Search.{find-passes, place-length}
 use Rattle.paper.specs.Layout.{Bytes, Block, sender, sendersSlot, pair, withSendersSlot}
 use Rattle.paper.specs.Book.{used, isSender, isSeries, isSenderBlockOf, slotOf, isSeriesOf, ownSeries, pairIs}
 use Rattle.paper.specs.Message.{headOf, seriesOf}

@@ -9,7 +9,11 @@ use lib.ListN.{length, getD, length-map}
 use Rattle.laws.specs.Tests.{_and_, is}
 use Rattle.laws.specs.Tests.Laws.{split, clash, and-left, and-right, and-both, is-other}
 use Rattle.laws.specs.Lists.{same, place, nth, has, apart, keep, All}
-use Rattle.laws.specs.Lists.Laws.{same-no, all-imply, all-each, getD-inside, has-yes, has-no-place, has-no-all, all-has-no, find-passes, place-positive, place-length, nth-place, place-append-first, place-append-second, place-append-only, apart-place, keep-agree}
+use Rattle.laws.specs.Lists.Same.{same-no}
+use Rattle.laws.specs.Lists.Each.{all-imply, all-each, getD-inside}
+use Rattle.laws.specs.Lists.Search.{has-yes, has-no-place, has-no-all, all-has-no, find-passes, place-positive, place-length, nth-place, place-append-first, place-append-second, place-append-only}
+use Rattle.laws.specs.Lists.Apart.{apart-place}
+use Rattle.laws.specs.Lists.Keep.{keep-agree}
 use Rattle.paper.specs.Layout.{Bytes, Block, sender, sendersSlot, pair, withSendersSlot}
 use Rattle.paper.specs.Book.{dayBlock, used, isSender, isSeries, numbered, isSenderBlockOf, slotOf, isSeriesOf, ownSeries}
 use Rattle.paper.specs.Sound.{partiesOf, ownerSound, seriesSound, usedSound, sameSender}

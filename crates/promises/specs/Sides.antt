@@ -7,7 +7,8 @@ use lib.ListN.{take}
 use Rattle.laws.specs.Tests.{_and_, neg, is}
 use Rattle.laws.specs.Tests.Laws.{split, and-left, and-right, and-no-left, or-else, neg-yes, neg-true, neg-false, is-yes, is-no, is-equal, is-other}
 use Rattle.laws.specs.Lists.{same, has, All}
-use Rattle.laws.specs.Lists.Laws.{same-yes, same-other, same-no, all-imply}
+use Rattle.laws.specs.Lists.Same.{same-yes, same-other, same-no}
+use Rattle.laws.specs.Lists.Each.{all-imply}
 use Rattle.paper.specs.Layout.{Bytes, Block, sendersSlot, pair}
 use Rattle.paper.specs.Book.{isSeries, isSenderBlockOf, slotOf, pairIs, isSeriesOfPair}
 use Rattle.paper.specs.Sound.{partiesOf}

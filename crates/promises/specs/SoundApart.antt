@@ -6,7 +6,10 @@ use mathlib.Core.List.{List, [], _∷_, map}
 use lib.ListN.{length}
 use Rattle.laws.specs.Tests.Laws.{split, clash, and-left, and-right, and-both, or-no, or-yes-right, neg-yes, is-yes, is-equal}
 use Rattle.laws.specs.Lists.{has, every, apart, All}
-use Rattle.laws.specs.Lists.Laws.{same-yes, same-equal, all-imply, all-both, all-each, all-keep, has-no-all, apart-append, apart-keep, apart-none, all-map, apart-map}
+use Rattle.laws.specs.Lists.Same.{same-yes, same-equal}
+use Rattle.laws.specs.Lists.Each.{all-imply, all-both, all-each, all-keep, all-map}
+use Rattle.laws.specs.Lists.Search.{has-no-all}
+use Rattle.laws.specs.Lists.Apart.{apart-append, apart-keep, apart-none, apart-map}
 use Rattle.paper.specs.Layout.{Bytes, Block, idOf, sender, sendersSlot, pair, withSendersSlot}
 use Rattle.paper.specs.Book.{dayBlock, used, isSender, isSeries, isSenderBlockOf, isSeriesOf, ownSeries, idIs, pairIs}
 use Rattle.paper.specs.Sound.{sameSender, sameSeries}

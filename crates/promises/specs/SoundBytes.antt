@@ -8,7 +8,7 @@ use lib.ListN.{length, drop}
 use lib.Seq.{drop-at}
 use Rattle.laws.specs.Tests.Laws.{split, clash}
 use Rattle.laws.specs.Lists.{All}
-use Rattle.laws.specs.Lists.Laws.{all-both, all-append, all-drop, all-until, all-map}
+use Rattle.laws.specs.Lists.Each.{all-both, all-append, all-drop, all-until, all-map}
 use Rattle.laws.specs.Bytes.Laws.{written-length}
 use Rattle.paper.specs.Check.{checkRight}
 use Rattle.paper.specs.Layout.{Bytes, Block, blocks, nOf, sender, withMark, withNets}

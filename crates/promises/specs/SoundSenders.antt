@@ -9,7 +9,9 @@ use lib.ListN.{length}
 use Rattle.laws.specs.Tests.{_or_}
 use Rattle.laws.specs.Tests.Laws.{split, clash, and-left, and-right, and-both, or-else, is-yes, is-equal, upto-true}
 use Rattle.laws.specs.Lists.{same, count, keep, total, All}
-use Rattle.laws.specs.Lists.Laws.{same-yes, all-imply, all-both, count-keep, all-map}
+use Rattle.laws.specs.Lists.Same.{same-yes}
+use Rattle.laws.specs.Lists.Each.{all-imply, all-both, all-map}
+use Rattle.laws.specs.Lists.Count.{count-keep}
 use Rattle.paper.specs.Layout.{Bytes, Block, nOf, seriesCount, sender, quantity, withSendersSlot}
 use Rattle.paper.specs.Ranges.{countAllowed}
 use Rattle.paper.specs.Book.{dayBlock, used, isSender, isSeries, isSenderBlockOf, slotOf, isSeriesOf}

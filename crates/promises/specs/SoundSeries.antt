@@ -11,7 +11,8 @@ use lib.Seq.{take-all}
 use Rattle.laws.specs.Tests.{_or_, neg, is, upto}
 use Rattle.laws.specs.Tests.Laws.{split, clash, and-left, and-right, and-both, or-yes-left, or-yes-right, or-else, is-equal, upto-true, below-each, below-agree}
 use Rattle.laws.specs.Lists.{same, find, place, keep, All}
-use Rattle.laws.specs.Lists.Laws.{all-imply, all-both, all-keep, all-kept, all-find, find-has, place-length, all-map}
+use Rattle.laws.specs.Lists.Each.{all-imply, all-both, all-keep, all-kept, all-find, all-map}
+use Rattle.laws.specs.Lists.Search.{find-has, place-length}
 use Rattle.laws.specs.Bytes.{part, value, little, number}
 use Rattle.laws.specs.Bytes.Laws.{little-length, value-little, number-1}
 use Rattle.paper.specs.Layout.{Bytes, Block, nOf, version, sender, sendersSlot, pair, mark, state, first, partner, quantities, entry, quantity, withSendersSlot, withMark}

@@ -9,7 +9,8 @@ use lib.ListN.{length, drop, replicate, length-append, length-drop, length-repli
 use Rattle.laws.specs.Tests.{is}
 use Rattle.laws.specs.Tests.Laws.{and-left, and-right, and-both, is-same, upto-true}
 use Rattle.laws.specs.Lists.{every, apart, until, All}
-use Rattle.laws.specs.Lists.Laws.{all-imply, every-all, all-every, until-append}
+use Rattle.laws.specs.Lists.Each.{all-imply, every-all, all-every}
+use Rattle.laws.specs.Lists.Keep.{until-append}
 use Rattle.laws.specs.Bytes.{little}
 use Rattle.laws.specs.Bytes.Laws.{written-length}
 use Rattle.laws.specs.Cut.Laws.{cut-all}

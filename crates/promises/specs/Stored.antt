@@ -9,7 +9,9 @@ use lib.ListN.{length}
 use Rattle.laws.specs.Tests.{neg, is}
 use Rattle.laws.specs.Tests.Laws.{split, is-no}
 use Rattle.laws.specs.Lists.{same, find, has, keep, All}
-use Rattle.laws.specs.Lists.Laws.{same-yes, all-imply, all-both, all-keep, all-find, has-yes, all-has-no, has-sieve, find-passes, find-append-first, find-append-second, find-append-only, find-keep, find-map-all, find-map}
+use Rattle.laws.specs.Lists.Same.{same-yes}
+use Rattle.laws.specs.Lists.Each.{all-imply, all-both, all-keep, all-find}
+use Rattle.laws.specs.Lists.Search.{has-yes, all-has-no, has-sieve, find-passes, find-append-first, find-append-second, find-append-only, find-keep, find-map-all, find-map}
 use Rattle.paper.specs.Layout.{Bytes, Block, nOf, sender, sendersSlot, pair, quantities, withSendersSlot}
 use Rattle.paper.specs.Book.{dayBlock, used, isSeries, isSenderBlockOf, slotOf, isSeriesOf, ownSeries, pairIs, isSeriesOfPair}
 use Rattle.paper.specs.Message.{headOf, seriesOf}

@@ -9,7 +9,12 @@ use lib.ListN.{length}
 use Rattle.laws.specs.Tests.{is}
 use Rattle.laws.specs.Tests.Laws.{split, is-no}
 use Rattle.laws.specs.Lists.{find, has, apart, keep, total, All}
-use Rattle.laws.specs.Lists.Laws.{same-swap, all-imply, all-both, all-each, all-keep, all-kept, has-yes, has-no-find, all-has-no, apart-keep, keep-append, keep-all, keep-none, total-append, total-agree, total-keep, total-sieve, all-map, total-map}
+use Rattle.laws.specs.Lists.Same.{same-swap}
+use Rattle.laws.specs.Lists.Each.{all-imply, all-both, all-each, all-keep, all-kept, all-map}
+use Rattle.laws.specs.Lists.Search.{has-yes, has-no-find, all-has-no}
+use Rattle.laws.specs.Lists.Apart.{apart-keep}
+use Rattle.laws.specs.Lists.Count.{total-append, total-agree, total-keep, total-sieve, total-map}
+use Rattle.laws.specs.Lists.Keep.{keep-append, keep-all, keep-none}
 use Rattle.paper.specs.Layout.{Bytes, Block, sender, sendersSlot, pair, withSendersSlot}
 use Rattle.paper.specs.Book.{used, isSeries, isSenderBlockOf, isSeriesOf, pairIs}
 use Rattle.paper.specs.Sound.{sameSeries}

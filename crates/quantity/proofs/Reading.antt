@@ -11,10 +11,11 @@ use lib.Seq.{drop-cons}
 use Rattle.laws.specs.Tests.{_and_, is, upto}
 use Rattle.laws.specs.Tests.Laws.{neg-true, and-both, upto-true, is-equal}
 use Rattle.laws.specs.Lists.{every}
-use Rattle.laws.specs.Lists.Laws.{every-all, all-getD-inside, until-hit, until-end}
+use Rattle.laws.specs.Lists.Each.{every-all, all-getD-inside}
+use Rattle.laws.specs.Lists.Keep.{until-hit, until-end}
 use Rattle.paper.specs.Ids.{digit}
 use Rattle.paper.specs.QuantityText.{leadingDigits, decimalFrom, readRefused, readAs, worth, pastPoint, pastWhole, unsignedRead}
-use Rattle.laws.specs.Lists.Laws.{every-has-no}
+use Rattle.laws.specs.Lists.Search.{every-has-no}
 
 module _ (s : List ℕ) (i : ℕ) where
   pub run-hit : i < length s → every digit (take i s) ≡ true → digit (getD s i 0) ≡ false → i ≡ leadingDigits s

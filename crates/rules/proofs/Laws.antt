@@ -7,7 +7,7 @@ use native.Mathlib.Omega.{arith}
 use lib.ListN.{length, take, getD}
 use Rattle.laws.specs.Tests.{is}
 use Rattle.laws.specs.Lists.{count}
-use Rattle.laws.specs.Lists.Laws.{count-append}
+use Rattle.laws.specs.Lists.Count.{count-append}
 use Rattle.laws.specs.Loops.{step-byte, step-take}
 
 pub one-unless : (t : Bool) → _≡_ {A = ℕ} (cond (not t) 1 0) (cond t 0 1)

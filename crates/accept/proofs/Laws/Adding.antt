@@ -10,7 +10,9 @@ use lib.Seq.{take-suc, take-all}
 use Rattle.laws.specs.Tests.{_and_, neg, is}
 use Rattle.laws.specs.Tests.Laws.{split, is-yes, is-no, is-equal, is-other}
 use Rattle.laws.specs.Lists.{keep, has, place}
-use Rattle.laws.specs.Lists.Laws.{keep-append, map-append, has-keep-and, has-no-place, place-positive}
+use Rattle.laws.specs.Lists.Each.{map-append}
+use Rattle.laws.specs.Lists.Search.{has-keep-and, has-no-place, place-positive}
+use Rattle.laws.specs.Lists.Keep.{keep-append}
 use Rattle.paper.specs.Layout.{Block, pair, withSendersSlot}
 use Rattle.paper.specs.Book.{isSeriesOf, pairIs}
 use Rattle.paper.specs.Rules.{isNew}

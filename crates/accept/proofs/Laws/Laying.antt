@@ -5,7 +5,7 @@ use Prim.Native.Nat.{ℕ, _+_, _≤_, _<_}
 use native.Mathlib.Omega.{arith}
 use lib.ListN.{length, take, set, length-append}
 use lib.Seq.{length-take-le}
-use Rattle.laws.specs.Loops.{over, over-none, over-more, over-take, over-front, over-over}
+use Rattle.laws.specs.InPlace.{over, over-none, over-more, over-take, over-front, over-over}
 use Rattle.paper.specs.Layout.{Block}
 use Rattle.accept.specs.Steps.{Laid}
 

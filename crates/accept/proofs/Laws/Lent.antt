@@ -9,7 +9,7 @@ use lib.Seq.{drop-drop, drop-cons, getD-at, length-take-le}
 use Rattle.laws.specs.Bytes.{written}
 use Rattle.laws.specs.Bytes.Laws.{written-take-drop}
 use Rattle.laws.specs.Cut.{cut}
-use Rattle.laws.specs.Loops.{done}
+use Rattle.laws.specs.InPlace.{done}
 use Rattle.slots.proofs.Laws.{block-some}
 use Rattle.laws.specs.Cut.Laws.{cut-put, cut-append, cut-drop, cut-at, take-cut, block-length, width-blocks}
 

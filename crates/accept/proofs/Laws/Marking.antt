@@ -11,8 +11,9 @@ use lib.Seq.{set-getD}
 use Rattle.laws.specs.Tests.{_and_, _or_, neg, is}
 use Rattle.laws.specs.Tests.Laws.{split, is-no}
 use Rattle.laws.specs.Lists.{same, find, has, place}
-use Rattle.laws.specs.Lists.Laws.{find-map, has-map, place-map}
-use Rattle.laws.specs.Loops.{placeFrom, done, done-seen}
+use Rattle.laws.specs.Lists.Search.{find-map, has-map, place-map}
+use Rattle.laws.specs.Loops.{placeFrom}
+use Rattle.laws.specs.InPlace.{done, done-seen}
 use Rattle.laws.specs.Bytes.Laws.{little-length}
 use Rattle.paper.specs.Layout.{Bytes, Block, kind, sendersSlot, pair, quantities, withMark}
 use Rattle.paper.specs.Book.{isSeries, pairIs, isSeriesOfPair}

@@ -8,10 +8,10 @@ use lib.ListN.{length, take, drop, length-append, length-drop}
 use lib.Seq.{length-take-le}
 use Rattle.laws.specs.Tests.{is}
 use Rattle.laws.specs.Lists.{until}
-use Rattle.laws.specs.Lists.Laws.{until-length, until-take}
+use Rattle.laws.specs.Lists.Keep.{until-length, until-take}
 use Rattle.laws.specs.Cut.{cut}
 use Rattle.laws.specs.Cut.Laws.{cut-length}
-use Rattle.laws.specs.Loops.{over}
+use Rattle.laws.specs.InPlace.{over}
 use Rattle.paper.specs.Layout.{Bytes, Block}
 use Rattle.paper.specs.Book.{isFree}
 use Rattle.paper.specs.Acceptance.{renewed, remarked, usedAfter}

@@ -10,8 +10,8 @@ use lib.Seq.{take-at, drop-at}
 use Rattle.laws.specs.Tests.{is}
 use Rattle.laws.specs.Tests.Laws.{split, is-equal, is-other}
 use Rattle.laws.specs.Lists.{has, keep}
-use Rattle.laws.specs.Lists.Laws.{has-no-place, place-positive}
-use Rattle.laws.specs.Loops.{over}
+use Rattle.laws.specs.Lists.Search.{has-no-place, place-positive}
+use Rattle.laws.specs.InPlace.{over}
 use Rattle.paper.specs.Layout.{Bytes, Block, sender, withSendersSlot}
 use Rattle.paper.specs.Book.{isSenderBlockOf, isSeriesOf, slotOf, ownSeries}
 use Rattle.paper.specs.Rules.{isNew}

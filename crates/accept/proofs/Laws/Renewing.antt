@@ -6,8 +6,9 @@ use Prim.Native.Nat.{ℕ, _-_, _<_}
 use lib.ListN.{length, getD}
 use Rattle.laws.specs.Tests.{_and_}
 use Rattle.laws.specs.Lists.{place, All}
-use Rattle.laws.specs.Lists.Laws.{all-imply, has-no-find, place-agree, place-none, place-find}
-use Rattle.laws.specs.Loops.{done}
+use Rattle.laws.specs.Lists.Each.{all-imply}
+use Rattle.laws.specs.Lists.Search.{has-no-find, place-agree, place-none, place-find}
+use Rattle.laws.specs.InPlace.{done}
 use Rattle.paper.specs.Layout.{Block, sender, pair, withSendersSlot}
 use Rattle.paper.specs.Book.{isSenderBlockOf, isSeriesOf, pairIs}
 use Rattle.paper.specs.Acceptance.{senderKept, replaced, renewed}

@@ -9,7 +9,9 @@ use lib.ListN.{length, length-append, length-map}
 use Rattle.laws.specs.Tests.{_and_}
 use Rattle.laws.specs.Tests.Laws.{split, and-no-left, is-same}
 use Rattle.laws.specs.Lists.{find, has, All}
-use Rattle.laws.specs.Lists.Laws.{all-each, all-both, all-find, find-passes, has-agree, has-map, has-keep-and, same-yes, place-length}
+use Rattle.laws.specs.Lists.Same.{same-yes}
+use Rattle.laws.specs.Lists.Each.{all-each, all-both, all-find}
+use Rattle.laws.specs.Lists.Search.{find-passes, has-agree, has-map, has-keep-and, place-length}
 use Rattle.paper.specs.Layout.{Bytes, Block, sender, pair, withSendersSlot}
 use Rattle.paper.specs.Book.{isSeries, isSenderBlockOf, slotOf, isSeriesOf, ownSeries, pairIs, isSeriesOfPair}
 use Rattle.paper.specs.Acceptance.{slotFor, senderKept, replaced, renewed, fresh, placed}

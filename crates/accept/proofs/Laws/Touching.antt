@@ -12,7 +12,8 @@ use lib.Seq.{getD-append-add}
 use Rattle.laws.specs.Tests.{_and_, _or_, neg, is, less}
 use Rattle.laws.specs.Tests.Laws.{split, clash, or-no, less-yes, less-no}
 use Rattle.laws.specs.Lists.{find, has, keep, place, All}
-use Rattle.laws.specs.Lists.Laws.{all-imply, all-each, all-append, all-keep, all-map, all-find, all-getD-inside, find-passes, has-yes, has-append, has-agree, has-map, has-keep-and, getD-map}
+use Rattle.laws.specs.Lists.Each.{all-imply, all-each, all-append, all-keep, all-map, all-find, all-getD-inside, getD-map}
+use Rattle.laws.specs.Lists.Search.{find-passes, has-yes, has-append, has-agree, has-map, has-keep-and}
 use Rattle.paper.specs.Layout.{Bytes, Block, sender, sendersSlot, pair, withSendersSlot}
 use Rattle.paper.specs.Book.{isSeries, isSenderBlockOf, isSeriesOf, ownSeries, pairIs, isSeriesOfPair}
 use Rattle.paper.specs.Rules.{isNew}

@@ -11,7 +11,7 @@ use Rattle.laws.specs.Bytes.Laws.{part-take}
 use Rattle.laws.specs.Slices.{rest-slice}
 use Rattle.laws.specs.Cut.{cut, join}
 use Rattle.laws.specs.Cut.Laws.{cut-drop, join-cut, join-append}
-use Rattle.laws.specs.Loops.{over}
+use Rattle.laws.specs.InPlace.{over}
 use Rattle.paper.specs.Layout.{Bytes, Block, nOf}
 use Rattle.paper.specs.Book.{dayBlock, slots, isFree, used}
 use Rattle.paper.specs.Message.{headOf, seriesOf}

@@ -1,6 +1,6 @@
 -- The text is the field up to the text's length.
 use Rattle.laws.specs.Kit.{_∙_, needs}
-use Rattle.laws.specs.Lists.Laws.{until-take}
+use Rattle.laws.specs.Lists.Keep.{until-take}
 use Rattle.laws.specs.Bytes.{part}
 use Rattle.paper.specs.Ids.{idText}
 use Rattle.field.proofs.id_text.Statement.{statement}

@@ -4,7 +4,7 @@ use lib.Seq.{length-take-le}
 use denote.Ref.{now}
 use Rattle.laws.specs.Tests.{_and_, is, upto}
 use Rattle.laws.specs.Lists.{every}
-use Rattle.laws.specs.Lists.Laws.{until-take}
+use Rattle.laws.specs.Lists.Keep.{until-take}
 use Rattle.paper.specs.Layout.{zeros}
 use Rattle.paper.specs.Ids.{idCharacter, idText, idWellFormed}
 use Rattle.laws.specs.Slices.{rest-slice}

@@ -5,7 +5,7 @@ use borrow.Author.Tests.{not-true, not-false}
 use Rattle.laws.specs.Tests.{_and_}
 use Rattle.laws.specs.Tests.Laws.{and-no-left}
 use Rattle.laws.specs.Lists.{same}
-use Rattle.laws.specs.Lists.Laws.{same-length-other}
+use Rattle.laws.specs.Lists.Same.{same-length-other}
 use Rattle.laws.specs.Slices.{same-slice, rest-slice}
 use Rattle.field.proofs.same.Statement.{statement}
 use Rattle.field.proofs.same.Tie as tie

@@ -11,7 +11,8 @@ use lib.Seq.{drop-cons, drop-drop, getD-drop, getD-set-same, getD-set-other}
 use Rattle.laws.specs.Tests.{_and_, is, less}
 use Rattle.laws.specs.Tests.Laws.{split, clash, is-yes, is-no, is-equal, less-yes, less-no, and-left, and-right, and-both, or-left, or-right, or-no}
 use Rattle.laws.specs.Lists.{has, place, same}
-use Rattle.laws.specs.Lists.Laws.{all-imply, every-all, all-getD, same-yes}
+use Rattle.laws.specs.Lists.Same.{same-yes}
+use Rattle.laws.specs.Lists.Each.{all-imply, every-all, all-getD}
 use Rattle.laws.specs.Cut.{cut}
 use Rattle.laws.specs.Cut.Laws.{cut-length}
 use Rattle.laws.specs.Loops.{Step, placeFrom, place-start, place-go, place-hit}

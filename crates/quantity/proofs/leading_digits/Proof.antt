@@ -2,7 +2,7 @@
 use Rattle.laws.specs.Kit.{needs, arith, _≡_, true, _≤_, _-_, length, take, told, denied}
 use Rattle.laws.specs.Tests.Laws.{and-both}
 use Rattle.laws.specs.Lists.{every}
-use Rattle.laws.specs.Lists.Laws.{every-more}
+use Rattle.laws.specs.Lists.Each.{every-more}
 use Rattle.paper.specs.Ids.{digit}
 use Rattle.quantity.proofs.Reading.{run-hit, run-end}
 use Rattle.quantity.proofs.leading_digits.Statement.{statement}

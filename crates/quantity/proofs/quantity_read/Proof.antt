@@ -5,7 +5,7 @@ use Rattle.laws.specs.Tests.{is}
 use Rattle.laws.specs.Tests.Laws.{is-equal, is-other}
 use Rattle.paper.specs.QuantityText.{quantityRead}
 use Rattle.laws.specs.Slices.{rest-slice}
-use Rattle.laws.specs.Lists.Laws.{length-none}
+use Rattle.laws.specs.Lists.Each.{length-none}
 use Rattle.quantity.proofs.quantity_read.Statement.{statement}
 use Rattle.quantity.proofs.quantity_read.Tie as tie
 

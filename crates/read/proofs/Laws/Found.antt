@@ -9,7 +9,7 @@ use lib.ListN.{getD}
 use Rattle.laws.specs.Tests.{is}
 use Rattle.laws.specs.Tests.Laws.{split, is-yes, is-no}
 use Rattle.laws.specs.Lists.{find, place}
-use Rattle.laws.specs.Lists.Laws.{has-no-find, place-none, place-find}
+use Rattle.laws.specs.Lists.Search.{has-no-find, place-none, place-find}
 use Rattle.paper.specs.Layout.{Block}
 use Rattle.paper.specs.Book.{numbered}
 

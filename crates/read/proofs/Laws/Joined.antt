@@ -8,7 +8,7 @@ use lib.ListN.{length, take, drop, length-append}
 use lib.Seq.{take-append-seam, drop-append-seam}
 use Rattle.laws.specs.Tests.{_and_}
 use Rattle.laws.specs.Lists.{same}
-use Rattle.laws.specs.Lists.Laws.{same-split, same-length-other}
+use Rattle.laws.specs.Lists.Same.{same-split, same-length-other}
 use Rattle.laws.specs.Slices.{rest-slice}
 
 pub joined-short : (s a b : List ℕ) → length s < length a → false ≡ same s (a ++ b)

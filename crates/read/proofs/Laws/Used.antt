@@ -5,7 +5,7 @@ use Prim.Native.Nat.{ℕ, _-_, _*_, _/_, _≤_, _<_}
 use native.Mathlib.Omega.{arith}
 use lib.ListN.{length, take, drop, drop-of-length-le}
 use Rattle.laws.specs.Lists.{until}
-use Rattle.laws.specs.Lists.Laws.{until-take, until-length}
+use Rattle.laws.specs.Lists.Keep.{until-take, until-length}
 use Rattle.laws.specs.Cut.{cut}
 use Rattle.laws.specs.Cut.Laws.{cut-length, cut-short, take-cut}
 use Rattle.laws.specs.Slices.{rest-slice}

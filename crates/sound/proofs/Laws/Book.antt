@@ -10,7 +10,8 @@ use lib.Seq.{length-take-le, drop-drop}
 use Rattle.laws.specs.Tests.{_and_, is}
 use Rattle.laws.specs.Tests.Laws.{and-left, and-right, and-true, is-yes, upto-yes}
 use Rattle.laws.specs.Lists.{every, until}
-use Rattle.laws.specs.Lists.Laws.{drop-take, all-imply, every-all, all-every, every-append, until-take, until-length}
+use Rattle.laws.specs.Lists.Each.{drop-take, all-imply, every-all, all-every, every-append}
+use Rattle.laws.specs.Lists.Keep.{until-take, until-length}
 use Rattle.laws.specs.Bytes.{part}
 use Rattle.laws.specs.Bytes.Laws.{part-take}
 use Rattle.laws.specs.Slices.{rest-slice}

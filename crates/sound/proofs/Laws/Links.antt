@@ -9,7 +9,7 @@ use lib.ListN.{length, getD, set, drop-of-length-le}
 use lib.Seq.{getD-set-same, getD-set-other}
 use Rattle.laws.specs.Tests.{is, less}
 use Rattle.laws.specs.Tests.Laws.{split, is-yes, is-no, less-yes, less-no}
-use Rattle.laws.specs.Lists.Laws.{all-imply, every-all, all-getD}
+use Rattle.laws.specs.Lists.Each.{all-imply, every-all, all-getD}
 use Rattle.laws.specs.Cut.{cut}
 use Rattle.laws.specs.Cut.Laws.{cut-length}
 use Rattle.paper.specs.Layout.{Bytes, zeros}

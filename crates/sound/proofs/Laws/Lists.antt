@@ -5,7 +5,7 @@ use mathlib.Core.List.{List, [], _∷_}
 use Rattle.laws.specs.Tests.{_and_, _or_, neg}
 use Rattle.laws.specs.Tests.Laws.{neg-both}
 use Rattle.laws.specs.Lists.{every, apart}
-use Rattle.laws.specs.Lists.Laws.{all-each, every-append, every-agree}
+use Rattle.laws.specs.Lists.Each.{all-each, every-append, every-agree}
 use Rattle.laws.specs.Cut.{join}
 
 and-swap : (a b : Bool) → (a and b) ≡ (b and a)

@@ -9,7 +9,10 @@ use lib.Seq.{drop-cons}
 use Rattle.laws.specs.Tests.{_and_}
 use Rattle.laws.specs.Tests.Laws.{split, or-no}
 use Rattle.laws.specs.Lists.{every, count, has}
-use Rattle.laws.specs.Lists.Laws.{all-imply, every-append, has-no-all, all-every, count-append, count-keep, keep-none}
+use Rattle.laws.specs.Lists.Each.{all-imply, every-append, all-every}
+use Rattle.laws.specs.Lists.Search.{has-no-all}
+use Rattle.laws.specs.Lists.Count.{count-append, count-keep}
+use Rattle.laws.specs.Lists.Keep.{keep-none}
 use Rattle.laws.specs.Loops.{placeFrom}
 
 module _ {X : Type 0} (p : X → Bool) where

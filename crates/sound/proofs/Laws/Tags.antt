@@ -11,7 +11,7 @@ use lib.Seq.{getD-set-same, getD-set-other}
 use Rattle.laws.specs.Tests.{_and_, _or_, is, less}
 use Rattle.laws.specs.Tests.Laws.{split, clash, and-left, and-right, or-no, or-else, or-yes-left, or-yes-right, is-equal, less-yes, less-no}
 use Rattle.laws.specs.Lists.{same}
-use Rattle.laws.specs.Lists.Laws.{same-yes}
+use Rattle.laws.specs.Lists.Same.{same-yes}
 use Rattle.laws.specs.Cut.{cut}
 use Rattle.paper.specs.Layout.{Bytes, Block, idOf}
 use Rattle.paper.specs.Sound.{sameSender, sameSeries}

@@ -9,7 +9,10 @@ use lib.ListN.{length, getD}
 use Rattle.laws.specs.Tests.{_and_, is}
 use Rattle.laws.specs.Tests.Laws.{split, clash, and-left, and-right, and-both, and-true, and-no-right, or-left, is-other}
 use Rattle.laws.specs.Lists.{every, apart, count}
-use Rattle.laws.specs.Lists.Laws.{same-refl, all-each, every-agree, apart-place, count-agree}
+use Rattle.laws.specs.Lists.Same.{same-refl}
+use Rattle.laws.specs.Lists.Each.{all-each, every-agree}
+use Rattle.laws.specs.Lists.Apart.{apart-place}
+use Rattle.laws.specs.Lists.Count.{count-agree}
 use Rattle.laws.specs.Cut.{cut}
 use Rattle.laws.specs.Cut.Laws.{cut-length}
 use Rattle.paper.specs.Layout.{Bytes, Block, seriesCount, sender}

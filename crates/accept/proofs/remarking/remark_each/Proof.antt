@@ -4,7 +4,7 @@ use Rattle.laws.specs.Kit.{needs, arith, _≡_, _∙_, _≤_, _-_, _/_, [], len
 use denote.Ref.{now}
 use Rattle.laws.specs.Cut.{cut}
 use Rattle.laws.specs.Cut.Laws.{cut-length}
-use Rattle.laws.specs.Loops.{done, done-none, done-more, done-all}
+use Rattle.laws.specs.InPlace.{done, done-none, done-more, done-all}
 use Rattle.paper.specs.Acceptance.{remarked}
 use Rattle.accept.proofs.Laws.Marking.{view, remarked-keeps, remarked-reads, links-kept, other-kept}
 use Rattle.accept.proofs.remarking.remark_each.Statement.{statement}

@@ -2,7 +2,7 @@
 use Rattle.laws.specs.Kit.{needs, arith, sym, ap, _∙_, _-_}
 use denote.Ref.{now}
 use lib.ListN.{length}
-use Rattle.laws.specs.Lists.Laws.{place-within}
+use Rattle.laws.specs.Lists.Search.{place-within}
 use Rattle.laws.specs.Cut.{cut}
 use Rattle.laws.specs.Cut.Laws.{cut-length}
 use Rattle.paper.specs.Layout.{withSendersSlot}

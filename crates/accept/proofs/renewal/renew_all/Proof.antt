@@ -3,7 +3,7 @@ use Rattle.laws.specs.Kit.{needs, arith, _≡_, _∙_, _≤_, _-_, _/_, [], len
 use denote.Ref.{now}
 use Rattle.laws.specs.Cut.{cut}
 use Rattle.laws.specs.Cut.Laws.{cut-length}
-use Rattle.laws.specs.Loops.{done, done-none, done-more-alone, done-all}
+use Rattle.laws.specs.InPlace.{done, done-none, done-more-alone, done-all}
 use Rattle.paper.specs.Acceptance.{renewed}
 use Rattle.slots.proofs.Laws.{block-some}
 use Rattle.accept.proofs.Laws.Lent.{cut-lent}

@@ -1,7 +1,7 @@
 -- As many of the first bytes as the first line has are the first line.
 use Rattle.laws.specs.Kit.{needs, arith, sym}
 use lib.Seq.{length-take-le}
-use Rattle.laws.specs.Lists.Laws.{until-take}
+use Rattle.laws.specs.Lists.Keep.{until-take}
 use Rattle.desk_text.specs.Words.{firstLine}
 use Rattle.desk_text.proofs.words.first_line.Statement.{statement}
 use Rattle.desk_text.proofs.words.first_line.Tie as tie

@@ -1,6 +1,6 @@
 -- What stands before x is the text up to its length.
 use Rattle.laws.specs.Kit.{_∙_, needs}
-use Rattle.laws.specs.Lists.Laws.{until-take}
+use Rattle.laws.specs.Lists.Keep.{until-take}
 use Rattle.laws.specs.Bytes.{part}
 use Rattle.message_text.specs.Words.{before}
 use Rattle.message_text.proofs.words.part_before.Statement.{statement}
