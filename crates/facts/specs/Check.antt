@@ -2,33 +2,17 @@
 -- and one changed byte is always noticed; and a sealed block's check is right.
 use mathlib.Core.Path.{_≡_, refl, sym, ap, _∙_}
 use mathlib.Core.Logic.{⊎-elim}
-use mathlib.Core.Bool.{Bool, true, false}
+use mathlib.Core.Bool.{true, false}
 use mathlib.Core.List.{List, [], _∷_, _++_}
-use Prim.Native.Nat.{ℕ, suc, _+_, _-_, _*_, _/_, _%_, _≤_, _<_}
+use Prim.Native.Nat.{ℕ, suc, _+_, _-_, _*_, _/_, _≤_, _<_}
 use native.Mathlib.Numerals.{add-one}
 use native.Mathlib.Omega.{arith}
 use lib.ListN.{length, take, drop, getD, set, length-take, take-append-drop, drop-of-length-le}
-use lib.Seq.{drop-cons, drop-drop, getD-take, take-set-lt, set-set, set-comm, set-split, split-at}
+use lib.Seq.{drop-cons, drop-drop, getD-take, take-set-lt, set-split, split-at}
 use Rattle.laws.specs.Tests.Laws.{lt-or, is-yes, is-equal, is-other}
-use Rattle.laws.specs.Lists.{All}
 use Rattle.laws.specs.Bytes.{part, written, little, number}
-use Rattle.laws.specs.Bytes.Laws.{written-length, take-written, part-written-before, written-part, little-number, number-written, number-written-after}
+use Rattle.laws.specs.Bytes.Laws.{written-length, take-written, part-written-before, number-written, number-written-after}
 use Rattle.paper.specs.Check.{checkStep, checkFrom, checkOf, checkRight, sealed}
-
--- ---- a list written over twice
-
-set-written : (i o x : ℕ) (v b : List ℕ) → i < o → set (written o v b) i x ≡ written o v (set b i x)
-unfolding written
-set-written i o x [] b h = refl
-set-written i o x (y ∷ v) b h = set-written i (suc o) x v (set b o y) (omega arith) ∙ ap (written (suc o) v) (set-comm b o i y x (λ e. omega arith))
-
-written-written : (o : ℕ) (u v b : List ℕ) → length u ≡ length v → written o u (written o v b) ≡ written o u b
-unfolding written
-written-written o [] [] b e = refl
-written-written o [] (y ∷ v) b e = absurd (omega arith)
-written-written o (x ∷ u) [] b e = absurd (omega arith)
-written-written o (x ∷ u) (y ∷ v) b e =
-    ap (written (suc o) u) (set-written o (suc o) x v (set b o y) (omega arith) ∙ ap (written (suc o) v) (set-set b o y x)) ∙ written-written (suc o) u v (set b o x) (omega arith)
 
 -- ---- below 4,294,967,296
 
@@ -148,13 +132,3 @@ check-of-sealed b = ap (checkFrom 0) (take-written 508 508 (little 4 (checkOf b)
 pub sealed-right : (b : List ℕ) → length b ≡ 512 → checkRight (sealed b) ≡ true
 unfolding checkRight sealed
 sealed-right b l = is-equal _ _ (number-written 4 508 (checkOf b) b (omega arith) (check-of-less b) ∙ sym (check-of-sealed b))
-
--- a block whose check is right is sealed already
-pub right-sealed : (b : List ℕ) → length b ≡ 512 → All (λ x. x < 256) b → checkRight b ≡ true → sealed b ≡ b
-unfolding checkRight sealed
-right-sealed b l a r = rw (← is-yes _ _ r, little-number 4 508 b a (omega arith)) (written-part 508 4 b (omega arith))
-
--- sealing twice is sealing once, whatever the length
-pub sealed-sealed : (b : List ℕ) → sealed (sealed b) ≡ sealed b
-unfolding sealed
-sealed-sealed b = ap (λ c. written 508 (little 4 c) (sealed b)) (check-of-sealed b) ∙ written-written 508 (little 4 (checkOf b)) (little 4 (checkOf b)) b refl

@@ -34,10 +34,6 @@ pub with-clock-length : (minute : ℕ) (d : Block) → length (withClock minute 
 unfolding withClock
 with-clock-length minute d = sealed-length (written 4 (little 2 minute) d) ∙ written-length 4 (little 2 minute) d
 
-pub quantities-length : (x : Block) → length x ≡ 512 → length (quantities x) ≡ 400
-unfolding quantities
-quantities-length x e = part-length 108 400 x (omega arith)
-
 -- ---- the parts beside what is written
 
 pub part-with-senders-slot-before : (slot o n : ℕ) (x : Block) → o + n ≤ 6 → part o n (withSendersSlot slot x) ≡ part o n x

@@ -3,6 +3,5 @@ pub mod Check
 pub mod Layout
 pub mod Book
 pub mod Sound
-pub mod Field
 pub mod Eic
 pub mod QuantityText

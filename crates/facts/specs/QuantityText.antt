@@ -1,24 +1,23 @@
--- Quantity text: what is printed is read back, what is read is below ten million, and a text is 5 to 8 digits and points.
+-- Quantity text: what is printed is read back and is at most 8 bytes long, and what is read is below ten million.
 use mathlib.Core.Path.{_≡_, refl, ap, _∙_}
 use mathlib.Core.Bool.{Bool, true, false, cond}
 use mathlib.Core.List.{List, [], _∷_, _++_, append-nil}
 use Prim.Native.Nat.{ℕ, zero, suc, _+_, _-_, _*_, _/_, _%_, _^_, _≤_, _<_}
 use native.Mathlib.Nat.{pow-suc, pow-le-pow-right, zero-add, add-zero, mul-one}
 use native.Mathlib.Omega.{arith}
-use lib.ListN.{List·getD-append, length, take, drop, getD, length-append, length-drop}
+use lib.ListN.{List·getD-append, length, take, drop, getD, length-append}
 use lib.Seq.{length-take-le, take-at, drop-at, take-all}
-use Rattle.laws.specs.Tests.{_and_, _or_, neg, is, less, upto}
-use Rattle.laws.specs.Tests.Laws.{split, clash, neg-no, neg-false, and-left, and-right, and-both, or-yes-left, or-yes-right, is-yes, is-no, is-same, is-other, upto-yes, upto-true, less-yes, less-no}
-use Rattle.laws.specs.Lists.{All, every, has, until}
-use Rattle.laws.specs.Lists.Each.{all-imply, all-append, all-every, every-all, every-append, all-getD-inside}
+use Rattle.laws.specs.Tests.{_and_, neg, is, less, upto}
+use Rattle.laws.specs.Tests.Laws.{neg-no, neg-false, and-left, and-right, and-both, is-yes, is-no, is-same, is-other, upto-yes, upto-true, less-yes}
+use Rattle.laws.specs.Lists.{All, every, until}
+use Rattle.laws.specs.Lists.Each.{all-imply, all-every, every-all, every-append, all-getD-inside}
 use Rattle.laws.specs.Lists.Search.{has-no-all}
 use Rattle.laws.specs.Lists.Keep.{until-length, until-has, until-take}
 use Rattle.paper.specs.Layout.{Bytes}
 use Rattle.paper.specs.Ids.{digit}
 use Rattle.paper.specs.QuantityText.{leadingDigits, decimalFrom, readRefused, readAs, worth, pastPoint, pastWhole, unsignedRead, pastMinus, quantityRead}
-use Rattle.paper.specs.QuantityText.{lastDigits, widthOf, decimal, quantityText, quantityPrinted, printedInto}
+use Rattle.paper.specs.QuantityText.{lastDigits, widthOf, decimal, quantityText}
 use Rattle.paper.specs.declared.QuantityRead.{QuantityRead}
-use Rattle.paper.specs.declared.QuantityPrinted.{QuantityPrinted}
 
 -- ---- digits
 
@@ -215,49 +214,11 @@ quantity-fair s =
 pub read-small : (s : Bytes) → (quantityRead s) .kilowatts ≤ 9999999
 read-small s = quantity-fair s .0
 
-pub read-refused : (s : Bytes) → ((quantityRead s) .number ≡ 0 → ⊥) → (quantityRead s) .kilowatts ≡ 0
-read-refused s = quantity-fair s .1
-
 -- ---- what is printed
-
--- a digit or the point
-abbrev textByte : ℕ → Bool
-textByte x = digit x or is x 46
-
-digits-text : (l : Bytes) → every digit l ≡ true → All (λ x. textByte x ≡ true) l
-digits-text l e = all-imply (λ x. digit x ≡ true) (λ x. textByte x ≡ true) (λ x. or-yes-left (digit x) (is x 46)) l (every-all digit l e)
-
-pub text-bytes : (kilowatts : ℕ) → every (λ x. digit x or is x 46) (quantityText kilowatts) ≡ true
-unfolding quantityText
-text-bytes kw =
-    let u : Bytes = decimal (kw / 1000) in
-    let t : Bytes = lastDigits 3 (kw % 1000) in
-    all-every textByte (u ++ 46 ∷ t)
-    (all-append (λ x. textByte x ≡ true) u (46 ∷ t) (digits-text u (decimal-digits _)) (or-yes-right (digit 46) (is 46 46) (is-same 46), digits-text t (last-digits-digits 3 _)))
 
 pub text-length : (kilowatts : ℕ) → length (quantityText kilowatts) ≡ widthOf (kilowatts / 1000) + 4
 unfolding quantityText
 text-length kw = simp (length-append, decimal-length, last-digits-length) (omega arith)
 
-pub text-least : (kilowatts : ℕ) → kilowatts ≤ 9999999 → 5 ≤ length (quantityText kilowatts)
-text-least kw h = omega (arith, text-length kw, width-wide (kw / 1000) (omega arith) .0)
-
 pub text-most : (kilowatts : ℕ) → kilowatts ≤ 9999999 → length (quantityText kilowatts) ≤ 8
 text-most kw h = omega (arith, text-length kw, width-wide (kw / 1000) (omega arith) .1)
-
--- a text that is printed has room
-printed-room : (kw room : ℕ) → is ((quantityPrinted kw room) .number) 0 ≡ true → length (quantityText kw) ≤ room
-unfolding quantityPrinted is
-printed-room kw room =
-    choice Room (less 9999999 kw) (λ e f. clash f refl) (λ e.
-    choice Room (less room (length (quantityText kw))) (λ d f. clash f refl) (λ d f. less-no _ _ d))
-  where
-    Room : QuantityPrinted → Type 0
-    Room r = is (r .number) 0 ≡ true → length (quantityText kw) ≤ room
-
-pub printed-into-length : (kilowatts : ℕ) (buffer : Bytes) → length (printedInto kilowatts buffer) ≡ length buffer
-unfolding printedInto
-printed-into-length kw b =
-    split (is ((quantityPrinted kw (length b)) .number) 0)
-    (λ e. rw e (simp (length-append, length-drop) (omega (arith, printed-room kw (length b) e))))
-    (λ e. rw e)

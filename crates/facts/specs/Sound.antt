@@ -2,8 +2,7 @@
 use mathlib.Core.Path.{_≡_}
 use mathlib.Core.Bool.{true, false}
 use mathlib.Core.List.{List}
-use Prim.Native.Nat.{ℕ, _*_, _/_, _%_, _≤_}
-use native.Mathlib.Nat.{div-add-mod'}
+use Prim.Native.Nat.{ℕ, _/_, _%_, _≤_}
 use native.Mathlib.Omega.{arith}
 use lib.ListN.{length, drop}
 use lib.Seq.{length-take-le}
@@ -69,9 +68,6 @@ is-sound book s =
 module _ (book : Bytes) (s : Sound book) where
   pub book-least : 1024 ≤ length book
   book-least = let h : 2 ≤ length book / 512 = s .least in omega arith
-
-  pub book-blocks : length book ≡ 512 * (length book / 512)
-  book-blocks = let w : length book % 512 ≡ 0 = s .whole in omega (arith, div-add-mod' (length book) 512)
 
   pub day-block-length : length (dayBlock book) ≡ 512
   unfolding dayBlock

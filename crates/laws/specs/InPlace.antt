@@ -4,7 +4,7 @@ use mathlib.Core.List.{List, [], _∷_, _++_, map, append-assoc, append-nil}
 use Prim.Native.Nat.{ℕ, suc, _+_, _≤_, _<_}
 use native.Mathlib.Numerals.{add-one}
 use native.Mathlib.Omega.{arith}
-use lib.ListN.{length, take, drop, getD, set, length-append, length-drop, length-map, take-append-drop, drop-of-length-le}
+use lib.ListN.{length, take, drop, getD, set, length-append, length-map, take-append-drop, drop-of-length-le}
 use lib.Seq.{take-suc, take-all, take-at, take-take, take-append-le, drop-cons, drop-drop, drop-append-add, set-at, getD-at, length-take-le}
 use Rattle.laws.specs.Lists.Each.{map-append}
 
@@ -21,12 +21,6 @@ module _ {X : Type 0} where
   pub done-all : (g : List X → X → X) (l : List X) (s : ℕ) → length l ≤ s → done g l s ≡ map (g l) l
   unfolding done
   done-all g l s h = rw (take-all s l h, drop-of-length-le l h) (append-nil (map (g l) l))
-
-  pub done-length : (g : List X → X → X) (l : List X) (s : ℕ) → length (done g l s) ≡ length l
-  unfolding done
-  done-length g l s =
-      length-append (map (g l) (take s l)) (drop s l) ∙ ap (λ n. n + length (drop s l)) (length-map (take s l) (g l))
-      ∙ sym (length-append (take s l) (drop s l)) ∙ ap length (take-append-drop s l)
 
   module _ {W : Type 0} (view : X → W) (g : List X → X → X)
       (keeps : (l : List X) (y : X) → view (g l y) ≡ view y)
@@ -81,10 +75,6 @@ module _ {X : Type 0} where
       q ∙ ap (λ w. set w i y) (f ∙ ap (λ w. p ++ w) (drop-cons l (length p) y (omega arith)))
       ∙ set-at p (getD l (length p) y) (drop (suc (length p)) l) y i (sym e)
       ∙ sym (rw n (append-assoc p (y ∷ []) (drop (suc (length p)) l)))
-
-  pub over-length : (p l : List X) → length p ≤ length l → length (over p l) ≡ length l
-  unfolding over
-  over-length p l h = rw (length-append p (drop (length p) l), length-drop (length p) l) (omega arith)
 
   pub over-take : (p l : List X) (s : ℕ) → s ≡ length p → take s (over p l) ≡ p
   unfolding over

@@ -1,8 +1,7 @@
 -- Laws of loops over a list: what the whole gives is what is kept and the rest give together.
 -- A turn at i is given by Step l i x (step-cut for blocks, step-byte for bytes), the end by End l i (end-cut, end-list).
 use mathlib.Core.Path.{_≡_, refl, sym, ap, ap₂, _∙_}
-use mathlib.Core.Bool.{Bool, true, false, cond, _&&_, _||_}
-use mathlib.Core.Option.{Option, none, some}
+use mathlib.Core.Bool.{Bool, true, false, cond, _&&_}
 use mathlib.Core.List.{List, [], _∷_, _++_, append-nil}
 use Prim.Native.Nat.{ℕ, zero, suc, _+_, _-_, _/_, _≤_, _<_}
 use native.Mathlib.Nat.{add-zero}
@@ -11,13 +10,12 @@ use native.Mathlib.Omega.{arith}
 use lib.Dec.{eqb}
 use lib.ListN.{length, take, drop, getD, length-drop, take-append-drop, drop-of-length-le}
 use lib.Seq.{take-add, drop-cons, length-take-le}
-use Rattle.laws.specs.Tests.{_and_, _or_, neg, is, below}
-use Rattle.laws.specs.Tests.Laws.{below-more, and-true, or-false, or-no}
-use Rattle.laws.specs.Lists.{same, further, find, place, has, every, apart, count, until, total}
+use Rattle.laws.specs.Tests.{_and_, neg, is, below}
+use Rattle.laws.specs.Tests.Laws.{below-more, and-true, or-no}
+use Rattle.laws.specs.Lists.{same, further, place, has, every, apart, until}
 use Rattle.laws.specs.Cut.{cut, block}
 use Rattle.laws.specs.Cut.Laws.{drop-cut, drop-cut-end, cut-at}
-use Rattle.laws.specs.Lists.Search.{has-append, has-no-place, find-append-second, place-append-second}
-use Rattle.laws.specs.Lists.Keep.{until-all, until-hit}
+use Rattle.laws.specs.Lists.Search.{has-append, has-no-place, place-append-second}
 
 -- what a loop has at its end
 pub at-end : {A : Type 0} (f : ℕ → A) {x : A} {k m : ℕ} → x ≡ f k → k ≤ m → m ≤ k → x ≡ f m
@@ -71,14 +69,8 @@ module _ {X : Type 0} where
 
 -- a loop that keeps a
 module _ {A X R : Type 0} (f : A → List X → R) (g : A → X → A) (turn : (a : A) (x : X) (xs : List X) → f a (x ∷ xs) ≡ f (g a x) xs) (l : List X) where
-  pub walk-start : (a : A) → f a l ≡ f a (drop 0 l)
-  walk-start a = refl
-
   pub walk-go : {w : R} (a : A) {i : ℕ} {x : X} → w ≡ f a (drop i l) → Step l i x → w ≡ f (g a x) (drop (i + 1) l)
   walk-go a {i} {x} e s = e ∙ ap (f a) (s .rest) ∙ turn a x (drop (i + 1) l)
-
-  pub walk-end : {w : R} (a : A) {i : ℕ} → w ≡ f a (drop i l) → End l i → w ≡ f a []
-  walk-end a e s = e ∙ ap (f a) (s .rest)
 
 -- a loop that may stop: it goes on, it stops, it ends
 module _ {A X R : Type 0} (f : A → List X → R) (stop : A → X → Bool) (hit : A → X → R) (next : A → X → A)
@@ -92,35 +84,7 @@ module _ {A X R : Type 0} (f : A → List X → R) (stop : A → X → Bool) (hi
   pub seek-hit : {w : R} (a : A) {i : ℕ} {x : X} → w ≡ f a (drop i l) → Step l i x → stop a x ≡ true → hit a x ≡ w
   seek-hit a e s n = sym (seek a e s ∙ rw n)
 
-  pub seek-end : {w : R} (a : A) {i : ℕ} → w ≡ f a (drop i l) → End l i → f a [] ≡ w
-  seek-end a e s = sym (e ∙ ap (f a) (s .rest))
-
--- ---- a fold
-
-module _ {S X : Type 0} (f : S → X → S) where
-  -- what s becomes, by each element in turn
-  unfoldable pub foldFrom : S → List X → S
-  foldFrom s [] = s
-  foldFrom s (x ∷ xs) = foldFrom (f s x) xs
-
-  pub fold-append : (s : S) (l r : List X) → foldFrom s (l ++ r) ≡ foldFrom (foldFrom s l) r
-  unfolding foldFrom
-  fold-append s [] r = refl
-  fold-append s (x ∷ xs) r = fold-append (f s x) xs r
-
-  pub rest-go : {l : List X} {w : S} (a : S) {i : ℕ} {x : X} → w ≡ foldFrom a (drop i l) → Step l i x → w ≡ foldFrom (f a x) (drop (i + 1) l)
-  unfolding foldFrom
-  rest-go a e s = e ∙ ap (foldFrom a) (s .rest)
-
-  pub rest-end : {l : List X} {w : S} (a : S) {i : ℕ} → w ≡ foldFrom a (drop i l) → End l i → a ≡ w
-  unfolding foldFrom
-  rest-end a e s = sym (e ∙ ap (foldFrom a) (s .rest))
-
 -- ---- helpers of count and place
-
-bit : (t : Bool) (n m : ℕ) → n + cond t (suc m) m ≡ n + cond t 1 0 + m
-bit true n m = omega arith
-bit false n m = omega arith
 
 abbrev up : ℕ → ℕ → ℕ
 up k zero = 0
@@ -155,23 +119,6 @@ module _ {X : Type 0} where
   unfolding every
   every-end p a e s = sym (e ∙ ap (λ (r : List X). a and every p r) (s .rest) ∙ and-true a)
 
-  has-turn : (p : X → Bool) (a : Bool) (x : X) (xs : List X) → (a or has p (x ∷ xs)) ≡ ((a || p x) or has p xs)
-  unfolding _or_ has
-  has-turn p true x xs = refl
-  has-turn p false x xs = refl
-
-  pub has-start : (p : X → Bool) (l : List X) → has p l ≡ (false or has p (drop 0 l))
-  unfolding _or_
-  has-start p l = refl
-
-  pub has-go : (p : X → Bool) {l : List X} {w : Bool} (a : Bool) {t : Bool} {i : ℕ} {x : X}
-      → w ≡ (a or has p (drop i l)) → Step l i x → t ≡ p x → w ≡ ((a || t) or has p (drop (i + 1) l))
-  has-go p {l} a e s q = rw q (walk-go (λ (a : Bool) (r : List X). a or has p r) (λ (a : Bool) (x : X). a || p x) (has-turn p) l a e s)
-
-  pub has-end : (p : X → Bool) {l : List X} {w : Bool} (a : Bool) {i : ℕ} → w ≡ (a or has p (drop i l)) → End l i → a ≡ w
-  unfolding has
-  has-end p a e s = sym (e ∙ ap (λ (r : List X). a or has p r) (s .rest) ∙ or-false a)
-
   apart-turn : (c : X → X → Bool) (a : Bool) (x : X) (xs : List X) → (a and apart c (x ∷ xs)) ≡ ((a && every (λ y. neg (c x y)) xs) and apart c xs)
   unfolding _and_ apart
   apart-turn c true x xs = refl
@@ -188,60 +135,6 @@ module _ {X : Type 0} where
   pub apart-end : (c : X → X → Bool) {l : List X} {w : Bool} (a : Bool) {i : ℕ} → w ≡ (a and apart c (drop i l)) → End l i → a ≡ w
   unfolding apart
   apart-end c a e s = sym (e ∙ ap (λ (r : List X). a and apart c r) (s .rest) ∙ and-true a)
-
-  -- ---- count, total: n is kept, k is found at i
-
-  count-turn : (p : X → Bool) (n : ℕ) (x : X) (xs : List X) → n + count p (x ∷ xs) ≡ n + cond (p x) 1 0 + count p xs
-  unfolding count
-  count-turn p n x xs = bit (p x) n (count p xs)
-
-  pub count-start : (p : X → Bool) (l : List X) → count p l ≡ 0 + count p (drop 0 l)
-  count-start p l = omega arith
-
-  pub count-go : (p : X → Bool) {l : List X} {w : ℕ} (n : ℕ) {k i : ℕ} {x : X}
-      → w ≡ n + count p (drop i l) → Step l i x → k ≡ cond (p x) 1 0 → w ≡ n + k + count p (drop (i + 1) l)
-  count-go p {l} n e s q = rw q (walk-go (λ (n : ℕ) (r : List X). n + count p r) (λ (n : ℕ) (x : X). n + cond (p x) 1 0) (count-turn p) l n e s)
-
-  pub count-end : (p : X → Bool) {l : List X} {w : ℕ} (n : ℕ) {i : ℕ} → w ≡ n + count p (drop i l) → End l i → n ≡ w
-  unfolding count
-  count-end p n e s = sym (e ∙ ap (λ (r : List X). n + count p r) (s .rest) ∙ add-zero n)
-
-  total-turn : (g : X → ℕ) (n : ℕ) (x : X) (xs : List X) → n + total g (x ∷ xs) ≡ n + g x + total g xs
-  unfolding total
-  total-turn g n x xs = omega arith
-
-  pub total-start : (g : X → ℕ) (l : List X) → total g l ≡ 0 + total g (drop 0 l)
-  total-start g l = omega arith
-
-  pub total-go : (g : X → ℕ) {l : List X} {w : ℕ} (n : ℕ) {k i : ℕ} {x : X}
-      → w ≡ n + total g (drop i l) → Step l i x → k ≡ g x → w ≡ n + k + total g (drop (i + 1) l)
-  total-go g {l} n e s q = rw q (walk-go (λ (n : ℕ) (r : List X). n + total g r) (λ (n : ℕ) (x : X). n + g x) (total-turn g) l n e s)
-
-  pub total-end : (g : X → ℕ) {l : List X} {w : ℕ} (n : ℕ) {i : ℕ} → w ≡ n + total g (drop i l) → End l i → n ≡ w
-  unfolding total
-  total-end g n e s = sym (e ∙ ap (λ (r : List X). n + total g r) (s .rest) ∙ add-zero n)
-
-  -- ---- find, with h what is made of the answer
-
-  find-turn : {R : Type 0} (p : X → Bool) (h : Option X → R) (x : X) (xs : List X) → h (find p (x ∷ xs)) ≡ cond (p x) (h (some x)) (h (find p xs))
-  unfolding find
-  find-turn p h x xs = by (p x)
-    where
-      by : (t : Bool) → h (cond t (some x) (find p xs)) ≡ cond t (h (some x)) (h (find p xs))
-      by true = refl
-      by false = refl
-
-  pub find-go : {R : Type 0} (p : X → Bool) (h : Option X → R) {l : List X} {w : R} {i : ℕ} {x : X}
-      → w ≡ h (find p (drop i l)) → Step l i x → p x ≡ false → w ≡ h (find p (drop (i + 1) l))
-  find-go p h {l} {i = i} {x = x} e s n = e ∙ ap (λ r. h (find p r)) (s .rest) ∙ find-turn p h x (drop (i + 1) l) ∙ rw n
-
-  pub find-hit : {R : Type 0} (p : X → Bool) (h : Option X → R) {l : List X} {w : R} {i : ℕ} {x : X}
-      → w ≡ h (find p (drop i l)) → Step l i x → p x ≡ true → h (some x) ≡ w
-  find-hit p h {l} {i = i} {x = x} e s n = sym (e ∙ ap (λ r. h (find p r)) (s .rest) ∙ find-turn p h x (drop (i + 1) l) ∙ rw n)
-
-  pub find-end : {R : Type 0} (p : X → Bool) (h : Option X → R) {l : List X} {w : R} {i : ℕ} → w ≡ h (find p (drop i l)) → End l i → h none ≡ w
-  unfolding find
-  find-end p h e s = sym (e ∙ ap (λ r. h (find p r)) (s .rest))
 
   -- ---- place
 
@@ -272,10 +165,6 @@ module _ {X : Type 0} where
 
   pub place-hit : (p : X → Bool) {l : List X} {w i : ℕ} {x : X} → w ≡ placeFrom i p (drop i l) → Step l i x → p x ≡ true → i + 1 ≡ w
   place-hit p {l} {i = i} e s n = seek-hit (λ (k : ℕ) (r : List X). placeFrom k p r) (λ (k : ℕ) (x : X). p x) (λ (k : ℕ) (x : X). k + 1) (λ (k : ℕ) (x : X). k + 1) (place-turn p) l i e s n
-
-  pub place-end : (p : X → Bool) {l : List X} {w i : ℕ} → w ≡ placeFrom i p (drop i l) → End l i → 0 ≡ w
-  unfolding placeFrom
-  place-end p {i = i} e s = sym (e ∙ ap (placeFrom i p) (s .rest))
 
   -- ---- until: how many stand before the first that passes
 
@@ -319,30 +208,12 @@ module _ {X : Type 0} where
         let q : place p l ≡ suc (length (take i l)) = ap (place p) (step-whole l i x s) ∙ place-append-second p (take i l) x (drop (i + 1) l) no e in
         omega arith
 
-    pub search-find : p x ≡ true → find p l ≡ some x
-    unfolding find
-    search-find e = ap (find p) (step-whole l i x s) ∙ find-append-second p (take i l) (x ∷ drop (i + 1) l) no ∙ rw e
-
-    pub search-has : p x ≡ true → has p l ≡ true
-    unfolding has _or_
-    search-has e = ap (has p) (step-whole l i x s) ∙ has-append p (take i l) (x ∷ drop (i + 1) l) ∙ rw (no, e)
-
-    pub search-until : p x ≡ true → i ≡ length (until p l)
-    search-until e =
-        let h : i < length l = step-inside l i x s in
-        let q : getD l i x ∷ drop (suc i) l ≡ x ∷ drop (i + 1) l = sym (drop-cons l i x h) ∙ s .rest in
-        let r : getD l i x ≡ x = cc in
-        until-hit p l i x h no (ap p r ∙ e)
-
   module _ (p : X → Bool) {l : List X} {i : ℕ} (no : has p (take i l) ≡ false) (s : End l i) where
     pub search-end : has p l ≡ false
     search-end = ap (has p) (sym (end-whole l i s)) ∙ no
 
     pub search-end-place : 0 ≡ place p l
     search-end-place = sym (has-no-place p l search-end)
-
-    pub search-end-until : until p l ≡ l
-    search-end-until = until-all p l search-end
 
 -- ---- two lists of numbers compared, element by element
 

@@ -1,6 +1,6 @@
 -- Answers in order. An answer has a number, and is a refusal where that is not 0; the first refusal wins.
 pub mod Laws
-use mathlib.Core.Bool.{Bool, cond}
+use mathlib.Core.Bool.{cond}
 use Prim.Native.Nat.{ℕ, zero, suc, _+_}
 use Rattle.laws.specs.Tests.{is}
 

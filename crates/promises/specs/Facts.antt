@@ -8,11 +8,10 @@ use native.Mathlib.Omega.{arith}
 use lib.ListN.{length, drop, replicate, length-append, length-drop, length-replicate}
 use lib.Seq.{length-take-le}
 use Rattle.laws.specs.Tests.{_and_, _or_, neg, is, less}
-use Rattle.laws.specs.Tests.Laws.{split, clash, and-left, and-right, and-both, and-no, or-left, or-right, or-no, or-yes-left, or-yes-right, or-else, neg-no, neg-true, is-yes, is-equal, less-no, less-true, upto-yes, upto-true}
+use Rattle.laws.specs.Tests.Laws.{split, clash, and-left, and-right, and-both, and-no, or-left, or-right, or-no, neg-no, neg-true, is-yes, is-equal, less-no, less-true, upto-yes, upto-true}
 use Rattle.laws.specs.Lists.{same, has, apart, All}
 use Rattle.laws.specs.Lists.Each.{all-imply, all-both, all-append-left, all-append-right, every-all, all-every}
 use Rattle.laws.specs.Lists.Search.{has-no-all}
-use Rattle.laws.specs.Lists.Keep.{until-length}
 use Rattle.laws.specs.Bytes.Laws.{little-length}
 use Rattle.laws.specs.Cut.Laws.{cut-length, cut-widths}
 use Rattle.laws.specs.Order.Laws.{first-left, first-right, along-all}
@@ -29,7 +28,6 @@ use Rattle.paper.specs.Rules.{fine, numberOf, _then_, broken, overPositions, ru
 use Rattle.paper.specs.Opening.{Opening, dayBlockOf, openingAllowed, openNumber, opened}
 use Rattle.paper.specs.Clock.{dayState, advanced, clockAnswer, clockMoved}
 use Rattle.facts.specs.Check.{sealed-length, sealed-right}
-use Rattle.facts.specs.Book.{series-not-sender, slots-length}
 pub use Rattle.facts.specs.Sound.{Sound, sound-says, is-sound, day-n, day-block-length, used-few, used-sender, used-series, used-other, used-kind}
 
 -- ---- verdicts

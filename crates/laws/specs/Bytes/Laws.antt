@@ -1,21 +1,17 @@
 -- Laws of parts, of lists written over, and of numbers as bytes: what is read after what was written.
-use mathlib.Core.Path.{_≡_, refl, sym, ap, ap₂, _∙_}
+use mathlib.Core.Path.{_≡_, refl, sym, ap, _∙_}
 use mathlib.Core.List.{List, [], _∷_, _++_, append-assoc, append-nil}
-use Prim.Native.Nat.{ℕ, zero, suc, _+_, _-_, _*_, _/_, _%_, _^_, _≤_, _<_}
-use native.Mathlib.Nat.{add-zero, zero-add, suc-add, add-suc, mul-assoc, pow-zero, pow-suc, pow-succ', pow-le-pow-right, lt-of-lt-of-le}
+use Prim.Native.Nat.{ℕ, zero, suc, _+_, _-_, _*_, _/_, _^_, _≤_, _<_}
+use native.Mathlib.Nat.{add-zero, zero-add, suc-add, add-suc, pow-zero, pow-suc, pow-le-pow-right, lt-of-lt-of-le}
 use native.Mathlib.Numerals.{add-one}
 use native.Mathlib.Omega.{arith}
-use lib.ListN.{length, take, drop, getD, set, length-set, length-take, length-drop, take-append-drop, drop-of-length-le}
-use lib.Seq.{sets, length-sets, sets-eq, set-append-left, getD-take, getD-drop, drop-set-lt, drop-set-add, take-set-le, take-set-lt, drop-at, take-at, length-take-le, take-append-le, drop-append-le, drop-append-add, take-nil, take-take, take-all, take-add, drop-drop, set-comm}
+use lib.ListN.{length, take, drop, getD, set, length-set, length-take, length-drop, drop-of-length-le}
+use lib.Seq.{sets, length-sets, sets-eq, set-append-left, drop-set-lt, drop-set-add, take-set-le, take-set-lt, drop-at, take-at, length-take-le, take-append-le, drop-append-le, drop-append-add, take-nil, take-take, take-all, take-add, drop-drop, set-comm}
 use Rattle.laws.specs.Lists.{All}
 use Rattle.laws.specs.Lists.Each.{drop-take, all-take, all-drop}
 use Rattle.laws.specs.Bytes.{part, written, value, little, number}
 
 -- ---- a part
-
-pub part-length : (o n : ℕ) (b : List ℕ) → o + n ≤ length b → length (part o n b) ≡ n
-unfolding part
-part-length o n b h = simp (length-take, length-drop) (omega arith)
 
 pub part-length-most : (o n : ℕ) (b : List ℕ) → length (part o n b) ≤ n
 unfolding part
@@ -33,10 +29,6 @@ part-all n b h = take-all n b h
 pub part-rest : (o n : ℕ) (b : List ℕ) → length b ≤ o + n → part o n b ≡ drop o b
 unfolding part
 part-rest o n b h = take-all n (drop o b) (rw (length-drop o b) (omega arith))
-
-pub part-getD : (o n j : ℕ) (b : List ℕ) → j < n → getD (part o n b) j 0 ≡ getD b (o + j) 0
-unfolding part
-part-getD o n j b h = rw (getD-take, getD-drop)
 
 -- a part of a list's first m, of its rest, of a part
 pub part-take : (o n m : ℕ) (b : List ℕ) → o + n ≤ m → part o n (take m b) ≡ part o n b
@@ -143,15 +135,6 @@ part-written-same o v b h =
     ap (λ x. take (length v) (drop o x)) (written-take-drop o v b h)
     ∙ ap (take (length v)) (ap (drop o) (append-assoc (take o b) v _) ∙ drop-at (take o b) (v ++ _) o l) ∙ take-at v _ (length v) refl
 
--- a part inside what was written
-pub part-written-inner : (o p n : ℕ) (v b : List ℕ) → p + n ≤ length v → o + length v ≤ length b → part (o + p) n (written o v b) ≡ part p n v
-part-written-inner o p n v b h f = sym (part-part o (length v) p n (written o v b) h) ∙ ap (part p n) (part-written-same o v b f)
-
--- a part around what was written
-pub part-written-outer : (o n p : ℕ) (v b : List ℕ) → p + length v ≤ n → part o n (written (o + p) v b) ≡ written p v (part o n b)
-unfolding part
-part-written-outer o n p v b h = ap (take n) (drop-written-inner o p v b) ∙ take-written-inner n p v (drop o b) h
-
 pub written-append-left : (o : ℕ) (v a b : List ℕ) → o + length v ≤ length a → written o v (a ++ b) ≡ written o v a ++ b
 unfolding written
 written-append-left o [] a b h = refl
@@ -167,46 +150,12 @@ written-append-right o (x ∷ v) a b =
     by [] = rw (zero-add o)
     by (y ∷ ys) = rw (suc-add (length ys) o) (ap (λ z. y ∷ z) (by ys))
 
--- written twice in one place
-pub written-written-same : (o : ℕ) (u v b : List ℕ) → length u ≡ length v → o + length v ≤ length b → written o u (written o v b) ≡ written o u b
-written-written-same o u v b e h =
-    written-take-drop o u (written o v b) (rw (written-length o v b) (omega arith))
-    ∙ ap₂ (λ k l. k ++ u ++ l) (take-written o o v b (omega arith)) (drop-written (o + length u) o v b (omega arith))
-    ∙ sym (written-take-drop o u b (omega arith))
-
--- what stands there already
-pub written-part : (o n : ℕ) (b : List ℕ) → o + n ≤ length b → written o (part o n b) b ≡ b
-unfolding part
-written-part o n b h =
-    let l : length (take n (drop o b)) ≡ n = length-take-le n (drop o b) (rw (length-drop o b) (omega arith)) in
-    written-take-drop o (take n (drop o b)) b (omega arith)
-    ∙ ap (λ k. take o b ++ take n (drop o b) ++ drop (o + k) b) l
-    ∙ append-assoc (take o b) (take n (drop o b)) (drop (o + n) b)
-    ∙ ap (λ k. take o b ++ (take n (drop o b) ++ k)) (sym (drop-drop n o b))
-    ∙ ap (λ k. take o b ++ k) (take-append-drop n (drop o b))
-    ∙ take-append-drop o b
-
-pub all-written : (P : ℕ → Type 0) (o : ℕ) (v b : List ℕ) → All P v → All P b → All P (written o v b)
-unfolding written
-all-written P o [] b h k = k
-all-written P o (x ∷ v) b h k = all-written P (suc o) v (set b o x) (h .1) (by o b k)
-  where
-    by : (i : ℕ) (l : List ℕ) → All P l → All P (set l i x)
-    by i [] f = tt
-    by zero (y ∷ ys) f = (h .0, f .1)
-    by (suc i) (y ∷ ys) f = (f .0, by i ys (f .1))
-
 -- ---- bytes as numbers
 
 pub little-length : (w x : ℕ) → length (little w x) ≡ w
 unfolding little
 little-length zero x = refl
 little-length (suc w) x = ap suc (little-length w (x / 256))
-
-pub little-bytes : (w x : ℕ) → All (λ y. y < 256) (little w x)
-unfolding little
-little-bytes zero x = tt
-little-bytes (suc w) x = (omega arith, little-bytes w (x / 256))
 
 pub value-little : (w x : ℕ) → x < 256 ^ w → value (little w x) ≡ x
 unfolding value little
@@ -225,25 +174,6 @@ value-small (x ∷ l) h = rw (pow-suc 256 (length l)) (small x (value l) (256 ^ 
   where
     small : (y v n : ℕ) → y < 256 → v < n → y + 256 * v < n * 256
     small y v n a b = omega arith
-
-pub little-value : (l : List ℕ) → All (λ y. y < 256) l → little (length l) (value l) ≡ l
-unfolding value little
-little-value [] h = refl
-little-value (x ∷ l) h =
-    let m : (x + 256 * value l) % 256 ≡ x = low x (value l) (h .0) in
-    let d : (x + 256 * value l) / 256 ≡ value l = high x (value l) (h .0) in
-    rw (m, d, little-value l (h .1))
-  where
-    low : (y v : ℕ) → y < 256 → (y + 256 * v) % 256 ≡ y
-    low y v k = omega arith
-
-    high : (y v : ℕ) → y < 256 → (y + 256 * v) / 256 ≡ v
-    high y v k = omega arith
-
-pub value-append : (u v : List ℕ) → value (u ++ v) ≡ value u + 256 ^ length u * value v
-unfolding value
-value-append [] v = rw (pow-zero 256) (omega arith)
-value-append (x ∷ u) v = rw (value-append u v, pow-succ' 256 (length u), mul-assoc 256 (256 ^ length u) (value v)) (omega arith)
 
 -- ---- a number of w bytes
 
@@ -280,10 +210,6 @@ pub number-small : (w o : ℕ) (b : List ℕ) → All (λ y. y < 256) b → numb
 unfolding number
 number-small w o b h = lt-of-lt-of-le (value-small (part o w b) (all-part (λ y. y < 256) o w b h)) (pow-le-pow-right {n = 256} (omega arith) (part-length-most o w b))
 
-pub little-number : (w o : ℕ) (b : List ℕ) → All (λ y. y < 256) b → o + w ≤ length b → little w (number w o b) ≡ part o w b
-unfolding number
-little-number w o b h f = rw (part-length o w b f) at (little-value (part o w b) (all-part (λ y. y < 256) o w b h))
-
 pub number-part : (w o n p : ℕ) (b : List ℕ) → p + w ≤ n → number w p (part o n b) ≡ number w (o + p) b
 unfolding number
 number-part w o n p b h = ap value (part-part o n p w b h)
@@ -291,10 +217,6 @@ number-part w o n p b h = ap value (part-part o n p w b h)
 pub number-written : (w o x : ℕ) (b : List ℕ) → o + w ≤ length b → x < 256 ^ w → number w o (written o (little w x) b) ≡ x
 unfolding number
 number-written w o x b h f = rw (little-length w x) at (ap value (part-written-same o (little w x) b (rw (little-length w x) h))) ∙ value-little w x f
-
-pub number-written-before : (w o p : ℕ) (v b : List ℕ) → o + w ≤ p → number w o (written p v b) ≡ number w o b
-unfolding number
-number-written-before w o p v b h = ap value (part-written-before o w p v b h)
 
 pub number-written-after : (w o p : ℕ) (v b : List ℕ) → p + length v ≤ o → number w o (written p v b) ≡ number w o b
 unfolding number

@@ -3,16 +3,16 @@ use mathlib.Core.Path.{_≡_, refl, sym, ap, ap₂, _∙_}
 use mathlib.Core.Logic.{_⊎_, inl, inr}
 use mathlib.Core.List.{List, [], _∷_, _++_, append-assoc}
 use Prim.Native.Nat.{ℕ, zero, suc, _+_, _-_, _*_, _/_, _≤_, _<_}
-use native.Mathlib.Nat.{add-zero, zero-add, add-comm, sub-zero, mul-zero, zero-mul, mul-suc, mul-add, mul-le-mul-left, mul-div-le, lt-mul-div-succ, div-zero, zero-div, div-eq-of-lt, mul-add-div, mul-div-cancel-left, le-trans}
+use native.Mathlib.Nat.{add-zero, zero-add, add-comm, sub-zero, mul-zero, zero-mul, mul-suc, mul-le-mul-left, mul-div-le, lt-mul-div-succ, div-zero, zero-div, div-eq-of-lt, mul-add-div, mul-div-cancel-left, le-trans}
 use native.Mathlib.Numerals.{add-one}
 use native.Mathlib.Omega.{arith}
 use lib.ListN.{length, take, drop, getD, set, length-append, length-drop, take-append-drop, drop-of-length-le}
-use lib.Seq.{drop-cons, drop-drop, take-suc, take-take, take-at, drop-at, length-take-le, take-append-le, drop-append-le}
+use lib.Seq.{drop-cons, drop-drop, take-take, take-at, drop-at, length-take-le, take-append-le, drop-append-le}
 use Rattle.laws.specs.Tests.Laws.{lt-or}
 use Rattle.laws.specs.Lists.{All}
-use Rattle.laws.specs.Lists.Each.{drop-take, all-take, all-drop, all-append}
-use Rattle.laws.specs.Bytes.{part, written, number}
-use Rattle.laws.specs.Bytes.Laws.{part-part, part-written-outer, take-written, drop-written, take-written-inner, drop-written-inner, written-all, written-length, number-part}
+use Rattle.laws.specs.Lists.Each.{drop-take, all-take, all-drop}
+use Rattle.laws.specs.Bytes.{written}
+use Rattle.laws.specs.Bytes.Laws.{take-written, drop-written, take-written-inner, drop-written-inner, written-all, written-length}
 use Rattle.laws.specs.Cut.{chunks, cut, join, block}
 
 -- ---- multiples of the width
@@ -84,18 +84,6 @@ module _ {A : Type 0} where
   unfolding block
   block-zero w b = rw (mul-zero w)
 
-  pub block-drop : (w : ℕ) (b : List A) (k i : ℕ) → block w (drop (w * k) b) i ≡ block w b (k + i)
-  unfolding block
-  block-drop w b k i = rw (drop-drop (w * i) (w * k) b, mul-add w k i)
-
-  pub block-take : (w : ℕ) (b : List A) (k i : ℕ) → i < k → block w (take (w * k) b) i ≡ block w b i
-  unfolding block
-  block-take w b k i h =
-      let m : w * suc i ≤ w * k = mul-le-mul-left w h in
-      let n : w * suc i ≡ w * i + w = mul-suc w i in
-      let e : w * k ≡ w * i + (w * k - w * i) = omega arith in
-      ap (λ j. take w (drop (w * i) (take j b))) e ∙ ap (take w) (drop-take (w * i) (w * k - w * i) b) ∙ take-take w (w * k - w * i) (drop (w * i) b) (omega arith)
-
   drop-chunks : (w i k : ℕ) (b : List A) → drop i (chunks w k b) ≡ chunks w (k - i) (drop (w * i) b)
   unfolding chunks
   drop-chunks w zero k b = rw (sub-zero k, mul-zero w)
@@ -148,11 +136,6 @@ module _ {A : Type 0} where
   pub cut-drop : (w : ℕ) (b : List A) (i : ℕ) → cut w (drop (w * i) b) ≡ drop i (cut w b)
   unfolding cut
   cut-drop w b i = rw (length-drop (w * i) b, quotient-rest w (length b) i) (sym (drop-chunks w i (length b / w) b))
-
-  pub take-cut-more : (w : ℕ) (b : List A) (i : ℕ) → i < length b / w → take (i + 1) (cut w b) ≡ take i (cut w b) ++ block w b i ∷ []
-  take-cut-more w b i h =
-      let l : i < length (cut w b) = rw (cut-length w b) h in
-      rw (add-one i, take-suc (cut w b) i [] l, cut-at w b i h)
 
   pub cut-short : (w : ℕ) (b : List A) → length b < w → cut w b ≡ []
   unfolding cut chunks
@@ -242,29 +225,7 @@ module _ {A : Type 0} where
   unfolding cut
   cut-all P w b h = chunks-all P w (length b / w) b h
 
-  pub block-all : (P : A → Type 0) (w : ℕ) (b : List A) (i : ℕ) → All P b → All P (block w b i)
-  unfolding block
-  block-all P w b i h = all-take P w (drop (w * i) b) (all-drop P (w * i) b h)
-
-  pub join-all : (P : A → Type 0) (l : List (List A)) → All (λ x. All P x) l → All P (join l)
-  unfolding join
-  join-all P [] h = tt
-  join-all P (x ∷ xs) h = all-append P x (join xs) (h .0) (join-all P xs (h .1))
-
 -- ---- bytes read and written in a block
-
-pub block-part : (w : ℕ) (b : List ℕ) (i : ℕ) → block w b i ≡ part (w * i) w b
-unfolding block part
-block-part w b i = refl
-
-pub part-block : (w i o n : ℕ) (b : List ℕ) → o + n ≤ w → part o n (block w b i) ≡ part (w * i + o) n b
-part-block w i o n b h = ap (part o n) (block-part w b i) ∙ part-part (w * i) w o n b h
-
-pub number-block : (w i n o : ℕ) (b : List ℕ) → o + n ≤ w → number n o (block w b i) ≡ number n (w * i + o) b
-number-block w i n o b h = ap (number n o) (block-part w b i) ∙ number-part n (w * i) w o b h
-
-pub block-written : (w i o : ℕ) (v b : List ℕ) → o + length v ≤ w → block w (written (w * i + o) v b) i ≡ written o v (block w b i)
-block-written w i o v b h = rw (block-part w (written (w * i + o) v b) i, block-part w b i) (part-written-outer (w * i) w o v b h)
 
 chunks-written : (w k i o : ℕ) (v b : List ℕ) → o + length v ≤ w → i < k → chunks w k (written (w * i + o) v b) ≡ set (chunks w k b) i (written o v (block w b i))
 unfolding chunks block

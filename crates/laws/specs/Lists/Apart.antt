@@ -1,5 +1,5 @@
 -- No element clashes with a later one.
-use mathlib.Core.Path.{_≡_, refl, sym, _∙_}
+use mathlib.Core.Path.{_≡_, refl}
 use mathlib.Core.Bool.{Bool, true, false}
 use mathlib.Core.List.{List, [], _∷_, _++_, map}
 use Prim.Native.Nat.{ℕ, zero, suc, _<_}
@@ -8,7 +8,7 @@ use lib.ListN.{length, getD}
 use Rattle.laws.specs.Tests.{neg}
 use Rattle.laws.specs.Tests.Laws.{split, clash, and-left, and-right, and-both, neg-yes, neg-true}
 use Rattle.laws.specs.Lists.{further, place, apart, keep, All}
-use Rattle.laws.specs.Lists.Each.{all-imply, all-each, all-append, all-getD-inside, every-all, all-every, every-append, every-keep, all-map}
+use Rattle.laws.specs.Lists.Each.{all-imply, all-each, all-append, all-getD-inside, every-all, all-every, every-keep, all-map}
 
 module _ {A : Type 0} where
   pub apart-append : (c : A → A → Bool) (l r : List A) → apart c l ≡ true → apart c r ≡ true → All (λ x. All (λ y. c x y ≡ false) r) l → apart c (l ++ r) ≡ true
@@ -18,16 +18,6 @@ module _ {A : Type 0} where
       and-both _ _
       (all-every (λ y. neg (c x y)) (xs ++ r) (all-append (λ y. neg (c x y) ≡ true) xs r (every-all _ xs (and-left _ _ a)) (all-imply (λ y. c x y ≡ false) (λ y. neg (c x y) ≡ true) (λ y e. neg-true _ e) r (h .0))))
       (apart-append c xs r (and-right _ _ a) b (h .1))
-
-  pub apart-append-left : (c : A → A → Bool) (l r : List A) → apart c (l ++ r) ≡ true → apart c l ≡ true
-  unfolding apart
-  apart-append-left c [] r a = refl
-  apart-append-left c (x ∷ xs) r a = and-both _ _ (and-left _ _ (sym (every-append (λ y. neg (c x y)) xs r) ∙ and-left _ _ a)) (apart-append-left c xs r (and-right _ _ a))
-
-  pub apart-append-right : (c : A → A → Bool) (l r : List A) → apart c (l ++ r) ≡ true → apart c r ≡ true
-  unfolding apart
-  apart-append-right c [] r a = a
-  apart-append-right c (x ∷ xs) r a = apart-append-right c xs r (and-right _ _ a)
 
   pub apart-keep : (c : A → A → Bool) (p : A → Bool) (l : List A) → apart c l ≡ true → apart c (keep p l) ≡ true
   unfolding apart keep

@@ -154,22 +154,9 @@ module _ {A B : Type 0} where
   all-map P f [] h = tt
   all-map P f (x ∷ xs) h = (h .0, all-map P f xs (h .1))
 
-  pub all-map-back : (P : B → Type 0) (f : A → B) (l : List A) → All P (map f l) → All (λ x. P (f x)) l
-  all-map-back P f [] h = tt
-  all-map-back P f (x ∷ xs) h = (h .0, all-map-back P f xs (h .1))
-
-  pub every-map : (f : A → B) (p : B → Bool) (l : List A) → every p (map f l) ≡ every (λ x. p (f x)) l
-  unfolding every
-  every-map f p [] = refl
-  every-map f p (x ∷ xs) = rw (every-map f p xs)
-
   pub map-append : (f : A → B) (l r : List A) → map f (l ++ r) ≡ map f l ++ map f r
   map-append f [] r = refl
   map-append f (x ∷ xs) r = ap (λ z. f x ∷ z) (map-append f xs r)
-
-  pub map-agree : (f g : A → B) (l : List A) → All (λ x. f x ≡ g x) l → map f l ≡ map g l
-  map-agree f g [] h = refl
-  map-agree f g (x ∷ xs) h = rw (h .0, map-agree f g xs (h .1))
 
   pub getD-map : (f : A → B) (l : List A) (k : ℕ) (d : A) (e : B) → k < length l → getD (map f l) k e ≡ f (getD l k d)
   getD-map f [] k d e h = absurd (omega arith)

@@ -1,12 +1,11 @@
 -- The elements that pass a test (keep), and those before the first that passes (until).
 use mathlib.Core.Path.{_≡_, refl, sym, ap, _∙_}
 use mathlib.Core.Bool.{Bool, true, false}
-use mathlib.Core.List.{List, [], _∷_, _++_, map, append-nil}
-use Prim.Native.Nat.{ℕ, zero, suc, _+_, _≤_, _<_}
-use native.Mathlib.Numerals.{add-one}
+use mathlib.Core.List.{List, [], _∷_, _++_, map}
+use Prim.Native.Nat.{ℕ, zero, suc, _≤_, _<_}
 use native.Mathlib.Omega.{arith}
 use lib.ListN.{length, take, getD}
-use lib.Seq.{take-suc, take-all}
+use lib.Seq.{take-all}
 use Rattle.laws.specs.Tests.Laws.{split, cond-apply, or-no, or-left, or-right}
 use Rattle.laws.specs.Lists.{has, keep, until, All}
 use Rattle.laws.specs.Lists.Count.{count-keep, count-length}
@@ -34,23 +33,8 @@ module _ {A : Type 0} where
   keep-agree p q [] h = refl
   keep-agree p q (y ∷ ys) h = rw (h .0, keep-agree p q ys (h .1))
 
-  pub keep-more-yes : (p : A → Bool) (l : List A) (i : ℕ) (d : A) → i < length l → p (getD l i d) ≡ true → keep p (take (i + 1) l) ≡ keep p (take i l) ++ getD l i d ∷ []
-  unfolding keep
-  keep-more-yes p l i d h e = rw (add-one i, take-suc l i d h) (keep-append p (take i l) (getD l i d ∷ []) ∙ rw e)
-
-  pub keep-more-no : (p : A → Bool) (l : List A) (i : ℕ) (d : A) → i < length l → p (getD l i d) ≡ false → keep p (take (i + 1) l) ≡ keep p (take i l)
-  unfolding keep
-  keep-more-no p l i d h e = rw (add-one i, take-suc l i d h) (keep-append p (take i l) (getD l i d ∷ []) ∙ rw e (append-nil (keep p (take i l))))
-
   pub keep-length : (p : A → Bool) (l : List A) → length (keep p l) ≤ length l
   keep-length p l = omega (arith, count-keep p l, count-length p l)
-
-  pub keep-take-length : (p : A → Bool) (l : List A) (k : ℕ) → length (keep p (take k l)) ≤ length (keep p l)
-  unfolding keep
-  keep-take-length p [] zero = omega arith
-  keep-take-length p [] (suc k) = omega arith
-  keep-take-length p (y ∷ ys) zero = omega arith
-  keep-take-length p (y ∷ ys) (suc k) = split (p y) (λ t. rw t (omega (arith, keep-take-length p ys k))) (λ t. rw t (keep-take-length p ys k))
 
   -- ---- until
 
@@ -101,8 +85,3 @@ module _ {A B : Type 0} where
   unfolding keep
   keep-map f p [] = refl
   keep-map f p (x ∷ xs) = rw (keep-map f p xs) (sym (cond-apply (map f) (p (f x)) (x ∷ keep (λ y. p (f y)) xs) (keep (λ y. p (f y)) xs)))
-
-  pub until-map : (f : A → B) (p : B → Bool) (l : List A) → until p (map f l) ≡ map f (until (λ x. p (f x)) l)
-  unfolding until
-  until-map f p [] = refl
-  until-map f p (x ∷ xs) = rw (until-map f p xs) (sym (cond-apply (map f) (p (f x)) [] (x ∷ until (λ y. p (f y)) xs)))

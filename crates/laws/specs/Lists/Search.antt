@@ -7,9 +7,9 @@ use Prim.Native.Nat.{ℕ, zero, suc, _-_, _≤_, _<_}
 use native.Mathlib.Omega.{arith}
 use lib.ListN.{length, getD}
 use Rattle.laws.specs.Tests.{_and_, _or_, neg}
-use Rattle.laws.specs.Tests.Laws.{split, clash, cond-apply, or-no, or-left, or-right, or-else, neg-false}
+use Rattle.laws.specs.Tests.Laws.{split, clash, cond-apply, or-no, or-left, or-right, neg-false}
 use Rattle.laws.specs.Lists.{further, find, place, nth, has, every, keep, All}
-use Rattle.laws.specs.Lists.Each.{all-imply, all-each, all-getD-inside, all-find, every-all, nth-getD}
+use Rattle.laws.specs.Lists.Each.{all-imply, all-each, all-find, every-all, nth-getD}
 
 module _ {A : Type 0} where
   -- ---- has
@@ -43,11 +43,6 @@ module _ {A : Type 0} where
   pub every-has-no : (p : A → Bool) (l : List A) → every p l ≡ true → has (λ x. neg (p x)) l ≡ false
   every-has-no p l e = all-has-no _ l (all-imply (λ x. p x ≡ true) (λ x. neg (p x) ≡ false) (λ x. neg-false (p x)) l (every-all p l e))
 
-  pub every-neg : (p : A → Bool) (l : List A) → every (λ x. neg (p x)) l ≡ neg (has p l)
-  unfolding every has neg _and_ _or_
-  every-neg p [] = refl
-  every-neg p (x ∷ xs) = split (p x) (λ t. rw t) (λ t. rw t (every-neg p xs))
-
   pub has-append : (p : A → Bool) (l r : List A) → has p (l ++ r) ≡ (has p l or has p r)
   unfolding has _or_
   has-append p [] r = refl
@@ -59,20 +54,11 @@ module _ {A : Type 0} where
   pub has-append-right : (p : A → Bool) (l r : List A) → has p (l ++ r) ≡ false → has p r ≡ false
   has-append-right p l r e = or-right _ _ (sym (has-append p l r) ∙ e)
 
-  pub has-getD : (p : A → Bool) (l : List A) (k : ℕ) (d : A) → k < length l → p (getD l k d) ≡ true → has p l ≡ true
-  has-getD p l k d h e = split (has p l) (λ t. t) (λ t. clash e (all-getD-inside (λ x. p x ≡ false) l k d h (has-no-all p l t)))
-
   -- tests that agree on the list
   pub has-agree : (p q : A → Bool) (l : List A) → All (λ x. p x ≡ q x) l → has p l ≡ has q l
   unfolding has
   has-agree p q [] h = refl
   has-agree p q (y ∷ ys) h = rw (h .0, has-agree p q ys (h .1))
-
-  -- one passes a test and another test does not let it through
-  pub has-other : (p q : A → Bool) (l : List A) → has p l ≡ false → has q l ≡ true → (x : A) × (p x ≡ false) × (q x ≡ true)
-  unfolding has
-  has-other p q [] e f = absurd (false≢true f)
-  has-other p q (y ∷ ys) e f = split (q y) (λ u. (y, or-left _ _ e, u)) (λ u. has-other p q ys (or-right _ _ e) (or-else _ _ f u))
 
   -- a search of what a sieve lets through
   pub has-sieve : (p f q : A → Bool) → ((x : A) → f x ≡ true → q x ≡ p x) → ((x : A) → f x ≡ false → q x ≡ false) → (l : List A) → has p (keep f l) ≡ has q l
@@ -81,10 +67,6 @@ module _ {A : Type 0} where
   has-sieve p f q g h (y ∷ ys) =
       split (f y) (λ t. rw (t, g y t) (ap (λ z. p y or z) (has-sieve p f q g h ys)))
       (λ t. rw (t, h y t) (has-sieve p f q g h ys))
-
-  -- a sieve that lets through whatever the search is for
-  pub has-keep : (p f : A → Bool) → ((x : A) → p x ≡ true → f x ≡ true) → (l : List A) → has p (keep f l) ≡ has p l
-  has-keep p f h l = has-sieve p f p (λ x t. refl) (λ x t. split (p x) (λ u. clash (h x u) t) (λ u. u)) l
 
   pub has-keep-and : (p f : A → Bool) (l : List A) → has p (keep f l) ≡ has (λ x. f x and p x) l
   unfolding _and_
@@ -204,9 +186,6 @@ module _ {A : Type 0} where
 
     pub place-none : t ≡ 0 → has p l ≡ false
     place-none z = split (has p l) (λ u. absurd (omega (arith, place-positive p l u))) (λ u. u)
-
-    pub place-some : (t ≡ 0 → ⊥) → has p l ≡ true
-    place-some z = split (has p l) (λ u. u) (λ u. absurd (z (e ∙ has-no-place p l u)))
 
     pub place-find : (d : A) → (t ≡ 0 → ⊥) → find p l ≡ some (getD l (t - 1) d)
     place-find d z =

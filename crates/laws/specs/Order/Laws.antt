@@ -30,9 +30,6 @@ module _ {A : Type 0} (number : A → ℕ) where
   pub first-right : (a b : A) → number (first number a b) ≡ 0 → number b ≡ 0
   first-right a b e = sym (ap number (first-on a b (first-left a b e))) ∙ e
 
-  pub first-both : (a b : A) → number a ≡ 0 → number b ≡ 0 → number (first number a b) ≡ 0
-  first-both a b e f = ap number (first-on a b e) ∙ f
-
   -- ---- along positions
 
   module _ (fine : A) (at : ℕ → A) where
@@ -49,11 +46,6 @@ module _ {A : Type 0} (number : A → ℕ) where
     along-all (suc f) k e p low high =
         let q : number (first number (at k) (along number fine at f (k + 1))) ≡ 0 = sym (ap number (along-more f k)) ∙ e in
         elim (ℕ-discrete p k) [ yes i ↦ rw i (first-left _ _ q) | no i ↦ along-all f (k + 1) (first-right _ _ q) p (omega arith) (omega arith) ]
-
-    pub along-each : number fine ≡ 0 → (f k : ℕ) → ((p : ℕ) → k ≤ p → p < k + f → number (at p) ≡ 0) → number (along number fine at f k) ≡ 0
-    along-each z zero k h = ap number (along-none k) ∙ z
-    along-each z (suc f) k h =
-        ap number (along-more f k) ∙ first-both _ _ (h k (omega arith) (omega arith)) (along-each z f (k + 1) (λ p low high. h p (omega arith) (omega arith)))
 
     -- a loop over n positions
     module _ (n : ℕ) where
@@ -74,19 +66,6 @@ module _ {A : Type 0} (number : A → ℕ) where
 
       pub along-end : {w : A} (p : ℕ) → w ≡ along number fine at (n - p) p → n ≤ p → fine ≡ w
       along-end p e h = let z : n - p ≡ 0 = omega arith in sym (e ∙ ap (λ f. along number fine at f p) z ∙ along-none p)
-
-      -- that keeps what it has found, r
-      pub along-keep-start : number fine ≡ 0 → along number fine at n 0 ≡ first number fine (along number fine at (n - 0) 0)
-      along-keep-start z = along-start ∙ sym (first-on fine (along number fine at (n - 0) 0) z)
-
-      pub along-keep-go : {w : A} (r x : A) (p : ℕ) → w ≡ first number r (along number fine at (n - p) p) → p < n → x ≡ at p
-          → w ≡ first number (first number r x) (along number fine at (n - (p + 1)) (p + 1))
-      along-keep-go r x p e h q =
-          e ∙ ap (first number r) (turn p refl h ∙ ap (λ y. first number y (along number fine at (n - (p + 1)) (p + 1))) (sym q))
-          ∙ sym (first-assoc r x (along number fine at (n - (p + 1)) (p + 1)))
-
-      pub along-keep-end : {w : A} (r : A) (p : ℕ) → w ≡ first number r (along number fine at (n - p) p) → n ≤ p → w ≡ first number r fine
-      along-keep-end r p e h = e ∙ ap (first number r) (sym (along-end p refl h))
 
   pub along-agree : (fine : A) (at on : ℕ → A) (f k : ℕ) → ((p : ℕ) → k ≤ p → p < k + f → at p ≡ on p) → along number fine at f k ≡ along number fine on f k
   unfolding along

@@ -6,7 +6,7 @@ use Prim.Native.Nat.{ℕ, zero, suc, _+_, _<_}
 use native.Mathlib.Omega.{arith}
 use native.Mathlib.Nat.{add-zero, zero-add, add-suc, suc-add}
 use lib.ListN.{length, getD}
-use Rattle.laws.specs.Tests.{_and_, is}
+use Rattle.laws.specs.Tests.{is}
 use Rattle.laws.specs.Tests.Laws.{and-left, and-right, is-yes}
 use Rattle.laws.specs.Table.{Table, tabulates}
 

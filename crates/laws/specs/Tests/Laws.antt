@@ -5,9 +5,7 @@ use mathlib.Core.Bool.{Bool, true, false, not, cond, true≢false, false≢true}
 use Prim.Native.Nat.{ℕ, zero, suc, _+_, _≤_, _<_}
 use native.Mathlib.Numerals.{add-one}
 use native.Mathlib.Omega.{arith}
-use native.Mathlib.Decide.{ℕ-discrete}
 use borrow.Author.Tests.{not-true, not-false, ltb-true, ltb-false, leb-true, leb-false, eqb-true, eqb-false, lt-ltb, le-ltb, le-leb, lt-leb, eq-eqb, ne-eqb}
-use lib.Dec.{T}
 use Rattle.laws.specs.Tests.{_and_, _or_, neg, is, less, upto, below}
 
 -- ---- any test
@@ -16,14 +14,6 @@ use Rattle.laws.specs.Tests.{_and_, _or_, neg, is, less, upto, below}
 pub split {ℓ} : {X : Type ℓ} (b : Bool) → (b ≡ true → X) → (b ≡ false → X) → X
 split true f g = f refl
 split false f g = g refl
-
-pub T→true : (b : Bool) → T b → b ≡ true
-T→true true t = refl
-T→true false t = absurd t
-
-pub true→T : (b : Bool) → b ≡ true → T b
-true→T true e = tt
-true→T false e = absurd (false≢true e)
 
 pub clash {ℓ} : {X : Type ℓ} {b : Bool} → b ≡ true → b ≡ false → X
 clash p q = absurd (true≢false (sym p ∙ q))
@@ -113,11 +103,6 @@ unfolding _or_
 or-false true = refl
 or-false false = refl
 
-pub or-assoc : (a b c : Bool) → (a or b or c) ≡ (a or (b or c))
-unfolding _or_
-or-assoc true b c = refl
-or-assoc false b c = refl
-
 -- ---- neg
 
 pub neg-yes : (a : Bool) → neg a ≡ true → a ≡ false
@@ -205,11 +190,6 @@ lt-or m n = split (less m n) (λ e. inl (less-yes m n e)) (λ e. inr (less-no m 
 pub below-more : (p : ℕ → Bool) (n : ℕ) → below p (n + 1) ≡ (below p n and p n)
 unfolding below
 below-more p n = rw add-one
-
-pub below-all : (p : ℕ → Bool) (n : ℕ) → below p n ≡ true → (k : ℕ) → k < n → p k ≡ true
-unfolding below
-below-all p zero e k h = absurd (omega arith)
-below-all p (suc n) e k h = elim (ℕ-discrete k n) [ yes i ↦ rw i (and-right _ _ e) | no i ↦ below-all p n (and-left _ _ e) k (omega arith) ]
 
 pub below-each : (p : ℕ → Bool) (n : ℕ) → ((k : ℕ) → k < n → p k ≡ true) → below p n ≡ true
 unfolding below
