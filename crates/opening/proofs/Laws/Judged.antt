@@ -9,7 +9,7 @@ use Rattle.paper.specs.Ids.{dayWellFormed}
 use Rattle.paper.specs.Eic.{eicValid}
 use Rattle.paper.specs.Sound.{dayFields, daySound}
 use Rattle.paper.specs.Opening.{Opening, dayBlockOf, openingAllowed}
-use Rattle.facts.specs.Field.{eic-field}
+use Rattle.facts.specs.Eic.{eic-length}
 use Rattle.opening.specs.Sized.{Sized}
 use Rattle.opening.proofs.Laws.DayBlock.{kind-of, n-of, lead-of, clock-of, day-of, area-of, receiver-of, zeros-of}
 
@@ -49,8 +49,8 @@ sized-tested o e =
     let codes = and-left _ _ e in
     record {
       day-8 = is-yes _ _ (and-left _ _ (and-right _ _ (and-left _ _ codes)));
-      area-16 = eic-field .sixteen _ (and-right _ _ codes);
-      receiver-16 = eic-field .sixteen _ (and-right _ _ e);
+      area-16 = eic-length _ (and-right _ _ codes);
+      receiver-16 = eic-length _ (and-right _ _ e);
     }
 
 pub opening-tested : (o : Opening) → o .lead < 65536 → tested o ≡ openingAllowed o
