@@ -1,11 +1,11 @@
 -- What the judgement of a message hands on to its acceptance.
 use mathlib.Core.Path.{_≡_}
-use mathlib.Core.Bool.{false}
 use mathlib.Core.List.{List}
 use Prim.Native.Nat.{ℕ}
 use lib.ListN.{length}
 use Rattle.paper.specs.Layout.{Block, sender}
 use Rattle.paper.specs.Book.{slotOf}
+use Rattle.index.specs.declared.By.the-variants.{Pair}
 use Rattle.index.specs.Linked.{Found}
 
 -- over the used slots us, a message's first block h and its series: how many slots are used, the sender's slot, of each series of the message its place among the sender's stored
@@ -13,5 +13,5 @@ use Rattle.index.specs.Linked.{Found}
 pub record Handed (us : List Block) (h : Block) (series : List Block) (many known : ℕ) (places numbers : List ℕ) : Type 0 where
   pub used-many : many ≡ length us
   pub senders-slot : known ≡ slotOf us (sender h)
-  pub stored : Found known false us series places
-  pub sent : Found 0 false series us numbers
+  pub stored : Found known Pair us series places
+  pub sent : Found 0 Pair series us numbers

@@ -1,7 +1,7 @@
 -- Blocks in a row, linked in buckets by the bytes of a field: a search meets no block of another bucket.
 pub mod Laws
 use mathlib.Core.Path.{_≡_}
-use mathlib.Core.Bool.{Bool, true, cond}
+use mathlib.Core.Bool.{Bool, true}
 use mathlib.Core.List.{List, []}
 use Prim.Native.Nat.{ℕ, _+_, _≤_, _<_, _/_}
 use lib.ListN.{length, drop, getD}
@@ -10,20 +10,23 @@ use Rattle.laws.specs.Lists.{same, place}
 use Rattle.laws.specs.Loops.{placeFrom}
 use Rattle.paper.specs.Layout.{Bytes, Block, idOf, pair}
 use Rattle.paper.specs.Book.{isSeries, isSeriesOf}
+use Rattle.index.specs.declared.By.{By}
+use Rattle.index.specs.declared.By.the-variants.{Id, Pair}
 use Rattle.index.specs.Tags.{pairTagOf}
 
 -- one of 1,024, by the upper bits of the tag: blocks with the same bytes share it, and few others
 unfoldable pub bucket : Bytes → ℕ
 bucket v = pairTagOf v / 4194304
 
--- what a series is sought by: its id, or its pair of parties
-unfoldable pub keyOf : Bool → Block → Bytes
-keyOf byId x = cond byId (idOf x) (pair x)
+-- what a series is sought by
+unfoldable pub keyOf : By → Block → Bytes
+keyOf Id x = idOf x
+keyOf Pair x = pair x
 
 -- ---- which blocks are linked, and in which bucket
 
-unfoldable pub ownIn : ℕ → Bool → ℕ → Block → Bool
-ownIn slot byId g x = isSeriesOf slot x and is (bucket (keyOf byId x)) g
+unfoldable pub ownIn : ℕ → By → ℕ → Block → Bool
+ownIn slot by g x = isSeriesOf slot x and is (bucket (keyOf by x)) g
 
 unfoldable pub seriesIn : ℕ → Block → Bool
 seriesIn g x = isSeries x and is (bucket (pair x)) g
@@ -48,10 +51,10 @@ module _ (p : ℕ → Block → Bool) (l : List Block) where
 -- ---- what is sought
 
 -- x is a series of the sender in a slot, and has a key
-unfoldable pub ownWith : ℕ → Bool → Bytes → Block → Bool
-ownWith slot byId v x = isSeriesOf slot x and same (keyOf byId x) v
+unfoldable pub ownWith : ℕ → By → Bytes → Block → Bool
+ownWith slot by v x = isSeriesOf slot x and same (keyOf by x) v
 
 -- of each of some blocks the place, in l, of the sender's first series with the same key
-pub record Found (slot : ℕ) (byId : Bool) (l of : List Block) (found : List ℕ) : Type 0 where
-  pub each : (k : ℕ) → k < length of → getD found k 0 ≡ place (ownWith slot byId (keyOf byId (getD of k []))) l
+pub record Found (slot : ℕ) (by : By) (l of : List Block) (found : List ℕ) : Type 0 where
+  pub each : (k : ℕ) → k < length of → getD found k 0 ≡ place (ownWith slot by (keyOf by (getD of k []))) l
   pub room : length found ≡ 1000

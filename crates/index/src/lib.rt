@@ -41,14 +41,22 @@ pub fn bucket(v: &[u8]) -> usize
     (pair_tag_of(v) / 4194304) as usize
 }
 
-// Its id, or its pair of parties.
-fn key_of(by_id: bool, x: &[u8]) -> &[u8]
-    ensures { λ r. ⌜ now r ≡ keyOf «by_id» (now (x .entry)) ⌝ }
+// What a series is sought by.
+pub enum By {
+    Id,
+    Pair,
+}
+
+// The series of a message lie in no sender's slot.
+pub const IN_MESSAGE: Slot = Slot(0);
+
+fn key_of(by: By, x: &[u8]) -> &[u8]
+    ensures { λ r. ⌜ now r ≡ keyOf by (now (x .entry)) ⌝ }
 {
-    if by_id {
-        return id_of(x);
+    match by {
+        By::Id => id_of(x),
+        By::Pair => pair(x),
     }
-    pair(x)
 }
 
 // A place in the width of an index.
@@ -62,64 +70,58 @@ pub fn wide(place: u16) -> usize
 fn link_own_block(
     us: &[u8],
     slot: Slot,
-    by_id: bool,
+    by: By,
     i: usize,
     heads: &mut [u16; 1024],
     nexts: &mut [u16; 1000],
 )
-    requires { ⌜ (0 < i) × (i ≤ length (now us) / 512) × (i ≤ 1000) × Links (ownIn (slot .0) «by_id») (cut 512 (now us)) i (now heads) (now nexts) ⌝ }
-    ensures { λ _. ⌜ Links (ownIn (slot .0) «by_id») (cut 512 (now (us .entry))) (i - 1) (now (heads .exit)) (now (nexts .exit)) ⌝ }
+    requires { ⌜ (0 < i) × (i ≤ length (now us) / 512) × (i ≤ 1000) × Links (ownIn (slot .0) by) (cut 512 (now us)) i (now heads) (now nexts) ⌝ }
+    ensures { λ _. ⌜ Links (ownIn (slot .0) by) (cut 512 (now (us .entry))) (i - 1) (now (heads .exit)) (now (nexts .exit)) ⌝ }
 {
     let x = block_at(us, i - 1);
     if !is_series_of(x, slot) {
         return;
     }
-    let g = bucket(key_of(by_id, x));
+    let g = bucket(key_of(by, x));
     nexts[i - 1] = heads[g];
     heads[g] = i as u16;
 }
 
 // The series of the sender in a slot, from the last back.
-pub fn link_own(
-    us: &[u8],
-    slot: Slot,
-    by_id: bool,
-    heads: &mut [u16; 1024],
-    nexts: &mut [u16; 1000],
-)
+pub fn link_own(us: &[u8], slot: Slot, by: By, heads: &mut [u16; 1024], nexts: &mut [u16; 1000])
     requires { ⌜ (length (now us) / 512 ≤ 1000) × (zeros (now heads) ≡ true) × (length (now heads) ≡ 1024) × (length (now nexts) ≡ 1000) ⌝ }
-    ensures { λ _. ⌜ Links (ownIn (slot .0) «by_id») (cut 512 (now (us .entry))) 0 (now (heads .exit)) (now (nexts .exit)) ⌝ }
+    ensures { λ _. ⌜ Links (ownIn (slot .0) by) (cut 512 (now (us .entry))) 0 (now (heads .exit)) (now (nexts .exit)) ⌝ }
 {
     let own = slot.0;
     let mut i = us.len() / 512;
     while 0 < i {
-        link_own_block(us, Slot(own), by_id, i, heads, nexts);
+        link_own_block(us, Slot(own), by, i, heads, nexts);
         i -= 1;
     }
 }
 
-fn is_own_with(x: &[u8], slot: Slot, by_id: bool, v: &[u8]) -> bool
-    ensures { λ r. ⌜ r ≡ ownWith (slot .0) «by_id» (now (v .entry)) (now (x .entry)) ⌝ }
+fn is_own_with(x: &[u8], slot: Slot, by: By, v: &[u8]) -> bool
+    ensures { λ r. ⌜ r ≡ ownWith (slot .0) by (now (v .entry)) (now (x .entry)) ⌝ }
 {
-    is_series_of(x, slot) & same(key_of(by_id, x), v)
+    is_series_of(x, slot) & same(key_of(by, x), v)
 }
 
 // The place of the first of them that has a key; 0 where none has it.
 pub fn own_with(
     us: &[u8],
     slot: Slot,
-    by_id: bool,
+    by: By,
     v: &[u8],
     heads: &[u16; 1024],
     nexts: &[u16; 1000],
 ) -> usize
-    requires { ⌜ (length (now us) / 512 ≤ 1000) × Links (ownIn (slot .0) «by_id») (cut 512 (now us)) 0 (now heads) (now nexts) ⌝ }
-    ensures { λ r. ⌜ (r ≡ place (ownWith (slot .0) «by_id» (now (v .entry))) (cut 512 (now (us .entry)))) × (r ≤ 1000) ⌝ }
+    requires { ⌜ (length (now us) / 512 ≤ 1000) × Links (ownIn (slot .0) by) (cut 512 (now us)) 0 (now heads) (now nexts) ⌝ }
+    ensures { λ r. ⌜ (r ≡ place (ownWith (slot .0) by (now (v .entry))) (cut 512 (now (us .entry)))) × (r ≤ 1000) ⌝ }
 {
     let own = slot.0;
     let mut at = wide(heads[bucket(v)]);
     while at != 0 {
-        if is_own_with(block_at(us, at - 1), Slot(own), by_id, v) {
+        if is_own_with(block_at(us, at - 1), Slot(own), by, v) {
             return at;
         }
         at = wide(nexts[at - 1]);
@@ -131,35 +133,35 @@ pub fn own_with(
 fn find_each(
     us: &[u8],
     slot: Slot,
-    by_id: bool,
+    by: By,
     heads: &[u16; 1024],
     nexts: &[u16; 1000],
     of: &[u8],
     found: &mut [u16; 1000],
 )
-    requires { ⌜ (length (now us) / 512 ≤ 1000) × Links (ownIn (slot .0) «by_id») (cut 512 (now us)) 0 (now heads) (now nexts) × (length (now of) / 512 ≤ 1000) × (length (now found) ≡ 1000) ⌝ }
-    ensures { λ _. ⌜ Found (slot .0) «by_id» (cut 512 (now (us .entry))) (cut 512 (now (of .entry))) (now (found .exit)) ⌝ }
+    requires { ⌜ (length (now us) / 512 ≤ 1000) × Links (ownIn (slot .0) by) (cut 512 (now us)) 0 (now heads) (now nexts) × (length (now of) / 512 ≤ 1000) × (length (now found) ≡ 1000) ⌝ }
+    ensures { λ _. ⌜ Found (slot .0) by (cut 512 (now (us .entry))) (cut 512 (now (of .entry))) (now (found .exit)) ⌝ }
 {
     let own = slot.0;
     let many = of.len() / 512;
     let mut k = 0;
     while k < many {
-        let v = key_of(by_id, block_at(of, k));
-        found[k] = own_with(us, Slot(own), by_id, v, heads, nexts) as u16;
+        let v = key_of(by, block_at(of, k));
+        found[k] = own_with(us, Slot(own), by, v, heads, nexts) as u16;
         k += 1;
     }
 }
 
 // Of each block of `of` the place in `us` of the first series, of the sender in a slot, with the same id or with the same pair; 0 where there is none.
-pub fn look_up(us: &[u8], slot: Slot, by_id: bool, of: &[u8], found: &mut [u16; 1000])
+pub fn look_up(us: &[u8], slot: Slot, by: By, of: &[u8], found: &mut [u16; 1000])
     requires { ⌜ (length (now us) / 512 ≤ 1000) × (length (now of) / 512 ≤ 1000) × (length (now found) ≡ 1000) ⌝ }
-    ensures { λ _. ⌜ Found (slot .0) «by_id» (cut 512 (now (us .entry))) (cut 512 (now (of .entry))) (now (found .exit)) ⌝ }
+    ensures { λ _. ⌜ Found (slot .0) by (cut 512 (now (us .entry))) (cut 512 (now (of .entry))) (now (found .exit)) ⌝ }
 {
     let own = slot.0;
     let mut heads = no_heads();
     let mut nexts = no_nexts();
-    link_own(us, Slot(own), by_id, &mut heads, &mut nexts);
-    find_each(us, Slot(own), by_id, &heads, &nexts, of, found);
+    link_own(us, Slot(own), by, &mut heads, &mut nexts);
+    find_each(us, Slot(own), by, &heads, &nexts, of, found);
 }
 
 // Block i - 1, if it is a series.

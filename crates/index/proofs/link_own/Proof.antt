@@ -8,10 +8,10 @@ use Rattle.index.proofs.link_own.Statement.{statement}
 use Rattle.index.proofs.link_own.Tie as tie
 
 abbrev Inv-loop : tie.InvT-loop
-Inv-loop us by-id heads₀ nexts₀ own i₀ heads nexts i = (i ≤ length us / 512) × Links (ownIn own by-id) (cut 512 us) i heads nexts
+Inv-loop us by heads₀ nexts₀ own i₀ heads nexts i = (i ≤ length us / 512) × Links (ownIn own by) (cut 512 us) i heads nexts
 
 abbrev μ-loop : tie.MeasureT-loop
-μ-loop us by-id heads₀ nexts₀ own i₀ heads nexts i = i
+μ-loop us by heads₀ nexts₀ own i₀ heads nexts i = i
 
 loop-holds : tie.Need-loop-holds Inv-loop μ-loop
 loop-holds c =

@@ -8,10 +8,10 @@ use Rattle.index.proofs.own_with.Statement.{statement}
 use Rattle.index.proofs.own_with.Tie as tie
 
 abbrev Inv-loop : tie.InvT-loop
-Inv-loop us by-id v heads nexts own at₀ at = On (ownIn own by-id (bucket v)) (ownWith own by-id v) (cut 512 us) (place (ownWith own by-id v) (cut 512 us)) at
+Inv-loop us by v heads nexts own at₀ at = On (ownIn own by (bucket v)) (ownWith own by v) (cut 512 us) (place (ownWith own by v) (cut 512 us)) at
 
 abbrev μ-loop : tie.MeasureT-loop
-μ-loop us by-id v heads nexts own at₀ at = left at
+μ-loop us by v heads nexts own at₀ at = left at
 
 loop-holds : tie.Need-loop-holds Inv-loop μ-loop
 loop-holds c =

@@ -18,6 +18,7 @@ use Rattle.laws.specs.Cut.Laws.{cut-length}
 use Rattle.laws.specs.Loops.{Step, placeFrom, place-start, place-go, place-hit}
 use Rattle.paper.specs.Layout.{Bytes, Block, zeros, pair}
 use Rattle.paper.specs.Book.{isSeries, isSeriesOf}
+use Rattle.index.specs.declared.By.{By}
 use Rattle.index.specs.Linked.{bucket, keyOf, ownIn, seriesIn, Heads, Nexts, Links, ownWith, Found}
 
 -- ---- the first that passes p, from t on
@@ -201,12 +202,12 @@ all-linked p l h n i z a = let e : i ≡ 0 = omega arith in rw e at a
 
 -- ---- the two kinds of links
 
-module _ (slot : ℕ) (byId : Bool) (x : Block) where
-  pub own-out : isSeriesOf slot x ≡ false → (g : ℕ) → ownIn slot byId g x ≡ false
+module _ (slot : ℕ) (by : By) (x : Block) where
+  pub own-out : isSeriesOf slot x ≡ false → (g : ℕ) → ownIn slot by g x ≡ false
   unfolding ownIn _and_
   own-out e g = rw e
 
-  pub own-in : isSeriesOf slot x ≡ true → {b : ℕ} → b ≡ bucket (keyOf byId x) → (g : ℕ) → ownIn slot byId g x ≡ is b g
+  pub own-in : isSeriesOf slot x ≡ true → {b : ℕ} → b ≡ bucket (keyOf by x) → (g : ℕ) → ownIn slot by g x ≡ is b g
   unfolding ownIn _and_
   own-in e q g = rw (e, q)
 
@@ -220,29 +221,29 @@ module _ (x : Block) where
   series-in e q g = rw (e, q)
 
 -- what is sought has the key's bucket
-module _ (slot : ℕ) (byId : Bool) (v : Bytes) (x : Block) where
-  pub own-linked : ownWith slot byId v x ≡ true → ownIn slot byId (bucket v) x ≡ true
+module _ (slot : ℕ) (by : By) (v : Bytes) (x : Block) where
+  pub own-linked : ownWith slot by v x ≡ true → ownIn slot by (bucket v) x ≡ true
   unfolding ownWith ownIn
   own-linked e = and-both _ _ (and-left _ _ e) (is-equal _ _ (ap bucket (same-yes _ _ (and-right _ _ e))))
 
 -- ---- of each block the place found
 
-unfoldable pub FoundUpto : ℕ → Bool → List Block → List Block → ℕ → List ℕ → Type 0
-FoundUpto slot byId l of i found = (k : ℕ) → k < i → getD found k 0 ≡ place (ownWith slot byId (keyOf byId (getD of k []))) l
+unfoldable pub FoundUpto : ℕ → By → List Block → List Block → ℕ → List ℕ → Type 0
+FoundUpto slot by l of i found = (k : ℕ) → k < i → getD found k 0 ≡ place (ownWith slot by (keyOf by (getD of k []))) l
 
-module _ (slot : ℕ) (byId : Bool) (l of : List Block) where
-  pub found-none : (f : List ℕ) → FoundUpto slot byId l of 0 f
+module _ (slot : ℕ) (by : By) (l of : List Block) where
+  pub found-none : (f : List ℕ) → FoundUpto slot by l of 0 f
   unfolding FoundUpto
   found-none f k h = absurd (omega arith)
 
-  pub found-more : (i : ℕ) (f : List ℕ) {x : Block} {v : Bytes} {n : ℕ} → i < length f → x ≡ getD of i [] → v ≡ keyOf byId x → n ≡ place (ownWith slot byId v) l
-      → FoundUpto slot byId l of i f → FoundUpto slot byId l of (i + 1) (set f i n)
+  pub found-more : (i : ℕ) (f : List ℕ) {x : Block} {v : Bytes} {n : ℕ} → i < length f → x ≡ getD of i [] → v ≡ keyOf by x → n ≡ place (ownWith slot by v) l
+      → FoundUpto slot by l of i f → FoundUpto slot by l of (i + 1) (set f i n)
   unfolding FoundUpto
   found-more i f h e q r a k c =
       split (less k i)
       (λ t. let w : k < i = less-yes k i t in getD-set-other f i k _ 0 (λ z. omega arith) ∙ a k w)
-      (λ t. let z : k ≡ i = omega (arith, less-no k i t) in rw z (getD-set-same f i _ 0 h ∙ r ∙ ap (λ w. place (ownWith slot byId w) l) (q ∙ ap (keyOf byId) e)))
+      (λ t. let z : k ≡ i = omega (arith, less-no k i t) in rw z (getD-set-same f i _ 0 h ∙ r ∙ ap (λ w. place (ownWith slot by w) l) (q ∙ ap (keyOf by) e)))
 
-  pub found-all : (i : ℕ) (f : List ℕ) → length of ≤ i → length f ≡ 1000 → FoundUpto slot byId l of i f → Found slot byId l of f
+  pub found-all : (i : ℕ) (f : List ℕ) → length of ≤ i → length f ≡ 1000 → FoundUpto slot by l of i f → Found slot by l of f
   unfolding FoundUpto
   found-all i f h r a = record { each = λ k c. a k (omega arith); room = r }
