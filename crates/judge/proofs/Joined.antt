@@ -10,9 +10,11 @@ use Rattle.laws.specs.Lists.{keep, count}
 use Rattle.paper.specs.declared.Verdict.{Verdict}
 use Rattle.laws.specs.Cut.{cut}
 use Rattle.laws.specs.Cut.Laws.{cut-length}
-use Rattle.paper.specs.Layout.{Bytes, Block, sender}
-use Rattle.paper.specs.Book.{isSender, numbered, slotOf, isSeriesOf, ownSender, ownSeries}
-use Rattle.paper.specs.Rules.{_then_, broken, headVerdict, lastVerdict, eachSeries, judge}
+use Rattle.paper.specs.Layout.{Bytes, Block, idOf, sender}
+use Rattle.paper.specs.Ids.{idWellFormed}
+use Rattle.paper.specs.Book.{isSender, numbered, isSenderBlockOf, slotOf, isSeriesOf, ownSender, ownSeries}
+use Rattle.paper.specs.Rules.{_then_, broken, rule3, rule4, rule5, versionBroken, rule6, isNew, newBlocks, rule16, rule17, eachSeries, judge}
+use Rattle.index.specs.declared.By.the-variants.{Pair}
 use Rattle.index.specs.Linked.{Found}
 use Rattle.judge.specs.Looked.{Taken, FoundIf}
 use Rattle.judge.proofs.Laws.{then-hit, then-pass}
@@ -48,7 +50,7 @@ module _ (d : Block) (us : List Block) (slot free : ℕ) (h : Block) (series : L
 -- ---- rules 16 and 17, by places
 
 pub last-by : (free slot : ℕ) (us series : Bytes) (x : Block) (places numbers : List ℕ) → Taken (cut 512 us) (cut 512 series)
-    → Found slot false (cut 512 us) (cut 512 series) places → Found 0 false (cut 512 series) (cut 512 us) numbers
+    → Found slot Pair (cut 512 us) (cut 512 series) places → Found 0 Pair (cut 512 series) (cut 512 us) numbers
     → (broken (neg (below (λ i. neg (isSeriesOf slot (getD (cut 512 us) i []) and is (getD numbers i 0) 0)) (length us / 512))) 16 0 0
     then broken (less free (cond (isSender x) 0 1 + count (λ n. is n 0) (take (length series / 512) places))) 17 0 0)
     ≡ lastVerdict x (keep (isSeriesOf slot) (cut 512 us)) free (cut 512 series)
@@ -64,5 +66,5 @@ last-by free slot us series x places numbers k a b =
 pub found-none : {v : Verdict} {slot : ℕ} {us series : List Block} {places numbers : List ℕ} → (v .number ≡ 0 → ⊥) → FoundIf v slot us series places numbers
 found-none n = record { found = λ z. absurd (n z) }
 
-pub found-both : {v : Verdict} {slot : ℕ} {us series : List Block} {places numbers : List ℕ} → Found slot false us series places → Found 0 false series us numbers → FoundIf v slot us series places numbers
+pub found-both : {v : Verdict} {slot : ℕ} {us series : List Block} {places numbers : List ℕ} → Found slot Pair us series places → Found 0 Pair series us numbers → FoundIf v slot us series places numbers
 found-both a b = record { found = λ z. (a, b) }

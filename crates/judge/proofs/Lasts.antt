@@ -16,8 +16,9 @@ use Rattle.laws.specs.Lists.Count.{count-map, count-agree}
 use Rattle.laws.specs.Cut.{cut}
 use Rattle.laws.specs.Cut.Laws.{cut-length}
 use Rattle.paper.specs.Layout.{Bytes, Block, pair}
-use Rattle.paper.specs.Book.{isSender, isSeriesOf, numbered, pairIs}
-use Rattle.paper.specs.Rules.{absent, rule16, isNew, storedOf, newBlocks, rule17}
+use Rattle.paper.specs.Book.{isSender, isSeriesOf, numbered}
+use Rattle.paper.specs.Rules.{pairIs, absent, rule16, isNew, storedOf, newBlocks, rule17}
+use Rattle.index.specs.declared.By.the-variants.{Pair}
 use Rattle.index.specs.Linked.{keyOf, ownWith, Found}
 use Rattle.judge.specs.Looked.{Taken}
 
@@ -40,12 +41,12 @@ no-place p l = split (has p l)
 
 -- the series y of the sender in a slot, at the place k among the used slots us
 module _ (slot : ℕ) (us : List Block) (y : Block) where
-  pub stored-block : (k : ℕ) → k ≡ place (ownWith slot false (keyOf false y)) us → numbered us k ≡ storedOf (keep (isSeriesOf slot) us) y
+  pub stored-block : (k : ℕ) → k ≡ place (ownWith slot Pair (keyOf Pair y)) us → numbered us k ≡ storedOf (keep (isSeriesOf slot) us) y
   unfolding ownWith keyOf storedOf pairIs
   stored-block k e =
       ap (numbered us) e ∙ numbered-place (λ x. isSeriesOf slot x and same (pair x) (pair y)) us ∙ ap (λ o. Option·getD o []) (sym (find-keep-and (λ x. same (pair x) (pair y)) (isSeriesOf slot) us))
 
-  stored-new : is (place (ownWith slot false (keyOf false y)) us) 0 ≡ isNew (keep (isSeriesOf slot) us) y
+  stored-new : is (place (ownWith slot Pair (keyOf Pair y)) us) 0 ≡ isNew (keep (isSeriesOf slot) us) y
   unfolding ownWith keyOf isNew pairIs
   stored-new = no-place (λ x. isSeriesOf slot x and same (pair x) (pair y)) us ∙ ap neg (sym (has-keep-and (λ x. same (pair x) (pair y)) (isSeriesOf slot) us))
 
@@ -56,12 +57,12 @@ as-map f d [] v a h = refl
 as-map f d (x ∷ l) [] a h = absurd (omega arith)
 as-map f d (x ∷ l) (n ∷ v) a h = let e : n ≡ f x = a 0 (omega arith) in rw (e, as-map f d l v (λ k i. a (suc k) (omega arith)) (omega arith))
 
-pub new-counted : (slot : ℕ) (us series : List Block) (places : List ℕ) (m : ℕ) → m ≡ length series → length series ≤ 1000 → Found slot false us series places
+pub new-counted : (slot : ℕ) (us series : List Block) (places : List ℕ) (m : ℕ) → m ≡ length series → length series ≤ 1000 → Found slot Pair us series places
     → count (λ n. is n 0) (take m places) ≡ count (isNew (keep (isSeriesOf slot) us)) series
 new-counted slot us series places m e h a =
     ap (λ k. count (λ n. is n 0) (take k places)) e
-    ∙ ap (count (λ n. is n 0)) (as-map (λ y. place (ownWith slot false (keyOf false y)) us) [] series places (a .each) (rw (a .room) h))
-    ∙ count-map (λ y. place (ownWith slot false (keyOf false y)) us) (λ n. is n 0) series
+    ∙ ap (count (λ n. is n 0)) (as-map (λ y. place (ownWith slot Pair (keyOf Pair y)) us) [] series places (a .each) (rw (a .room) h))
+    ∙ count-map (λ y. place (ownWith slot Pair (keyOf Pair y)) us) (λ n. is n 0) series
     ∙ count-agree _ _ series (all-each _ (stored-new slot us) series)
 
 -- ---- rule 16: a stored series has no number
@@ -79,11 +80,11 @@ some-below p q d l a (suc n) h =
     ap (has p) (take-suc l n d (omega arith)) ∙ has-append p (take n l) (getD l n d ∷ [])
     ∙ rw (or-false (p (getD l n d)), some-below p q d l a n (omega arith), ← a n (omega arith)) (sym (neg-and (below (λ k. neg (q k)) n) (q n)))
 
-in-message : (x y : Block) → isSeriesOf 0 y ≡ true → ownWith 0 false (keyOf false x) y ≡ pairIs (pair x) y
+in-message : (x y : Block) → isSeriesOf 0 y ≡ true → ownWith 0 Pair (keyOf Pair x) y ≡ pairIs (pair x) y
 unfolding ownWith keyOf pairIs _and_
 in-message x y e = rw e
 
-module _ (slot : ℕ) (us series : List Block) (numbers : List ℕ) (k : All (λ y. isSeriesOf 0 y ≡ true) series) (a : Found 0 false series us numbers) where
+module _ (slot : ℕ) (us series : List Block) (numbers : List ℕ) (k : All (λ y. isSeriesOf 0 y ≡ true) series) (a : Found 0 Pair series us numbers) where
   absent-at : (i : ℕ) → i < length us → (isSeriesOf slot (getD us i []) and is (getD numbers i 0) 0) ≡ (isSeriesOf slot (getD us i []) and neg (has (pairIs (pair (getD us i []))) series))
   absent-at i h =
       ap (λ b. isSeriesOf slot (getD us i []) and b)
@@ -97,9 +98,9 @@ module _ (slot : ℕ) (us series : List Block) (numbers : List ℕ) (k : All (λ
       ∙ ap (has (λ x. isSeriesOf slot x and neg (has (pairIs (pair x)) series))) (take-all (length us) us (omega arith))
       ∙ sym (has-keep-and (λ x. neg (has (pairIs (pair x)) series)) (isSeriesOf slot) us)
 
-pub rule-17-found : (free slot : ℕ) (us series : List Block) (x : Block) (places : List ℕ) (m : ℕ) → m ≡ length series → length series ≤ 1000 → Found slot false us series places
-    → less free (cond (isSender x) 0 1 + count (λ n. is n 0) (take m places)) ≡ rule17 x (keep (isSeriesOf slot) us) free series
-unfolding rule17 newBlocks
+pub rule-17-found : (free slot : ℕ) (us series : List Block) (x : Block) (places : List ℕ) (m : ℕ) → m ≡ length series → length series ≤ 1000 → Found slot Pair us series places
+    → less free (cond (isSender x) 0 1 + count (λ n. is n 0) (take m places)) ≡ rule17 free (x ∷ []) (keep (isSeriesOf slot) us) series
+unfolding rule17 newBlocks numbered
 rule-17-found free slot us series x places m e h a = ap (λ n. less free (cond (isSender x) 0 1 + n)) (new-counted slot us series places m e h a)
 
 -- ---- how many there can be

@@ -19,6 +19,8 @@ use Rattle.paper.specs.Book.{isSeriesOf, numbered, idIs, pairIs}
 use Rattle.paper.specs.Sound.{sameSeries}
 use Rattle.paper.specs.Rules.{_then_, broken, withOtherPair, withOtherId, rule7, rule8, rule9, rule10, storedOf, formVerdict, valuesVerdict, seriesVerdict}
 use Rattle.facts.specs.Book.{series-of-series, series-of-slot}
+use Rattle.index.specs.declared.By.{By}
+use Rattle.index.specs.declared.By.the-variants.{Id, Pair}
 use Rattle.index.specs.Linked.{keyOf, ownWith, Found}
 use Rattle.judge.specs.Looked.{Taken, Looked, seriesBy}
 use Rattle.judge.proofs.Lasts.{stored-block}
@@ -131,7 +133,7 @@ module _ (slot : ℕ) (y : Block) where
           (λ k. let m = or-else _ _ g k in or-yes-right _ _ (rw (same-yes u w (and-left _ _ m), same-yes v w (and-right _ _ m)) (same-refl w)))
 
   stored-crossed : (l : List Block) → apart sameSeries l ≡ true
-      → (has (withOtherPair y) (keep (isSeriesOf slot) l) or has (withOtherId y) (keep (isSeriesOf slot) l)) ≡ neg (is (place (ownWith slot true (idOf y)) l) (place (ownWith slot false (pair y)) l))
+      → (has (withOtherPair y) (keep (isSeriesOf slot) l) or has (withOtherId y) (keep (isSeriesOf slot) l)) ≡ neg (is (place (ownWith slot Id (idOf y)) l) (place (ownWith slot Pair (pair y)) l))
   unfolding withOtherPair withOtherId idIs pairIs ownWith keyOf
   stored-crossed l a =
       sym (has-own-or (isSeriesOf slot) (withOtherPair y) (withOtherId y) l)
@@ -143,11 +145,11 @@ module _ (us series : List Block) (slot : ℕ) (fi fp si sp : List ℕ) (k : Tak
   abbrev y : Block
   y = getD series i []
 
-  seen : (byId : Bool) (f : List ℕ) → Found 0 byId series series f → has (λ x. same (keyOf byId x) (keyOf byId y)) (take i series) ≡ neg (is (getD f i 0) (i + 1))
+  seen : (by : By) (f : List ℕ) → Found 0 by series series f → has (λ x. same (keyOf by x) (keyOf by y)) (take i series) ≡ neg (is (getD f i 0) (i + 1))
   unfolding ownWith _and_
-  seen byId f e =
-      has-agree _ (ownWith 0 byId (keyOf byId y)) (take i series) (all-imply _ _ (λ x q. rw q) (take i series) (all-take _ i series (k .kinds)))
-      ∙ earlier (ownWith 0 byId (keyOf byId y)) series i [] h (rw (all-getD-inside (λ x. isSeriesOf 0 x ≡ true) series i [] h (k .kinds)) (same-refl (keyOf byId y)))
+  seen by f e =
+      has-agree _ (ownWith 0 by (keyOf by y)) (take i series) (all-imply _ _ (λ x q. rw q) (take i series) (all-take _ i series (k .kinds)))
+      ∙ earlier (ownWith 0 by (keyOf by y)) series i [] h (rw (all-getD-inside (λ x. isSeriesOf 0 x ≡ true) series i [] h (k .kinds)) (same-refl (keyOf by y)))
       ∙ ap₂ (λ n m. neg (is n m)) (sym (e .each i h)) (sym (add-one i))
 
   pub rule-7-by : rule7 (keep (isSeriesOf slot) us) (take i series) y ≡ (neg (idWellFormed (idOf y)) or (neg (is (getD fi i 0) (i + 1)) or neg (is (getD fp i 0) (i + 1)) or neg (is (getD si i 0) (getD sp i 0))))
@@ -155,7 +157,7 @@ module _ (us series : List Block) (slot : ℕ) (fi fp si sp : List ℕ) (k : Tak
   rule-7-by =
       five (neg (idWellFormed (idOf y))) _ _ _ _
       ∙ ap (λ b. neg (idWellFormed (idOf y)) or b)
-      (ap₂ (λ b c. b or c) (ap₂ (λ b c. b or c) (seen true fi (a .first-ids)) (seen false fp (a .first-pairs)))
+      (ap₂ (λ b c. b or c) (ap₂ (λ b c. b or c) (seen Id fi (a .first-ids)) (seen Pair fp (a .first-pairs)))
       (stored-crossed slot y us (k .apart) ∙ ap₂ (λ n m. neg (is n m)) (sym (a .stored-ids .each i h)) (sym (a .stored-pairs .each i h))))
 
   pub series-by : (d hd x : Block) (s : ℕ) {t : Bool} → t ≡ (neg (is (getD fi i 0) (i + 1)) or neg (is (getD fp i 0) (i + 1)) or neg (is (getD si i 0) (getD sp i 0))) → x ≡ numbered us (getD sp i 0)

@@ -13,6 +13,7 @@ use Rattle.paper.specs.Book.{used, isSeriesOf}
 use Rattle.paper.specs.Message.{headOf, seriesOf}
 use Rattle.paper.specs.Sound.{sameSeries}
 use Rattle.paper.specs.Rules.{numberOf, _then_, broken, rule8, rule9, rule10, valuesVerdict}
+use Rattle.index.specs.declared.By.the-variants.{Id, Pair}
 use Rattle.index.specs.Linked.{Found}
 use Rattle.index.specs.Handed.{Handed}
 
@@ -25,10 +26,10 @@ pub record Taken (us series : List Block) : Type 0 where
 
 -- of each series of the message: the message's first with its id, and with its pair, and the sender's stored ones
 pub record Looked (us series : List Block) (slot : ℕ) (firstIds firstPairs storedIds places : List ℕ) : Type 0 where
-  pub first-ids : Found 0 true series series firstIds
-  pub first-pairs : Found 0 false series series firstPairs
-  pub stored-ids : Found slot true us series storedIds
-  pub stored-pairs : Found slot false us series places
+  pub first-ids : Found 0 Id series series firstIds
+  pub first-pairs : Found 0 Pair series series firstPairs
+  pub stored-ids : Found slot Id us series storedIds
+  pub stored-pairs : Found slot Pair us series places
 
 -- the rules on series number s, by what is stored of it, x, and by whether another has its id or its pair
 unfoldable pub seriesBy : Block → Block → Block → Bool → ℕ → Block → Verdict
@@ -38,7 +39,7 @@ seriesBy d h x otherwise s y =
 
 -- of a message that passes: of each of its series the slot, and of each used slot the message's series with its pair
 pub record FoundIf (v : Verdict) (slot : ℕ) (us series : List Block) (places numbers : List ℕ) : Type 0 where
-  pub found : numberOf v ≡ 0 → Found slot false us series places × Found 0 false series us numbers
+  pub found : numberOf v ≡ 0 → Found slot Pair us series places × Found 0 Pair series us numbers
 
 -- what is handed on to the acceptance, if there is one
 pub record HandedIf (v : Verdict) (book message : Bytes) (many slot : ℕ) (places numbers : List ℕ) : Type 0 where

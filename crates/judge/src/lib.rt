@@ -19,6 +19,8 @@ pub mod series;
 
 use eic::values;
 use field::part_of;
+use index::By;
+use index::IN_MESSAGE;
 use index::look_up;
 use layout::sender;
 use message::head_of;
@@ -98,7 +100,7 @@ pub fn judge_from(
     if walked.number != 0 {
         return walked;
     }
-    look_up(series, Slot(0), false, us, numbers);
+    look_up(series, IN_MESSAGE, By::Pair, us, numbers);
     last_verdict(
         free,
         us,

@@ -1,6 +1,5 @@
 // Rules 7 to 15: one series passes all of them before the next begins.
 ghost use mathlib.Core.Path.{_≡_};
-ghost use mathlib.Core.Bool.{false};
 ghost use mathlib.Core.List.{[]};
 ghost use Prim.Native.Nat.{_+_, _/_, _<_, _≤_};
 ghost use lib.ListN.{length, getD};
@@ -19,6 +18,8 @@ use super::order::fine;
 use super::order::then;
 use super::positions::closed_verdict;
 use super::positions::quantity_verdict;
+use index::By;
+use index::IN_MESSAGE;
 use index::look_up;
 use index::wide;
 use layout::n_of;
@@ -151,16 +152,16 @@ pub fn walk(
     places: &mut [u16; 1000],
 ) -> Verdict
     requires { ⌜ IsTable (now table) × Taken (cut 512 (now us)) (cut 512 (now series)) × (length (now places) ≡ 1000) ⌝ }
-    ensures { λ r. ⌜ (r ≡ eachSeries (now (d .entry)) (keep (isSeriesOf (slot .0)) (cut 512 (now (us .entry)))) (now (h .entry)) [] 1 (cut 512 (now (series .entry)))) × Found (slot .0) false (cut 512 (now (us .entry))) (cut 512 (now (series .entry))) (now (places .exit)) ⌝ }
+    ensures { λ r. ⌜ (r ≡ eachSeries (now (d .entry)) (keep (isSeriesOf (slot .0)) (cut 512 (now (us .entry)))) (now (h .entry)) [] 1 (cut 512 (now (series .entry)))) × Found (slot .0) By.Pair (cut 512 (now (us .entry))) (cut 512 (now (series .entry))) (now (places .exit)) ⌝ }
 {
     let own = slot.0;
     let mut first_ids = [0u16; 1000];
     let mut first_pairs = [0u16; 1000];
     let mut stored_ids = [0u16; 1000];
-    look_up(series, Slot(0), true, series, &mut first_ids);
-    look_up(series, Slot(0), false, series, &mut first_pairs);
-    look_up(us, Slot(own), true, series, &mut stored_ids);
-    look_up(us, Slot(own), false, series, places);
+    look_up(series, IN_MESSAGE, By::Id, series, &mut first_ids);
+    look_up(series, IN_MESSAGE, By::Pair, series, &mut first_pairs);
+    look_up(us, Slot(own), By::Id, series, &mut stored_ids);
+    look_up(us, Slot(own), By::Pair, series, places);
     each_series(
         table,
         d,

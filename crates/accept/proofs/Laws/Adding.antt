@@ -17,6 +17,7 @@ use Rattle.paper.specs.Layout.{Block, pair, withSendersSlot}
 use Rattle.paper.specs.Book.{isSeriesOf, pairIs}
 use Rattle.paper.specs.Rules.{isNew}
 use Rattle.paper.specs.Acceptance.{senderKept}
+use Rattle.index.specs.declared.By.the-variants.{Pair}
 use Rattle.index.specs.Linked.{keyOf, ownWith, Found}
 use Rattle.accept.specs.Steps.{senderIfNew, addedAt, addedTo}
 
@@ -47,9 +48,9 @@ pub no-place : (p : Block → Bool) (l : List Block) → is (place p l) 0 ≡ ne
 unfolding neg
 no-place p l = split (has p l) (λ t. rw t (is-other _ _ (λ z. omega (arith, place-positive p l t)))) (λ t. rw t (is-equal _ _ (has-no-place p l t)))
 
-new-by-place : (known : ℕ) (us : List Block) (y : Block) → is (place (ownWith known false (keyOf false y)) us) 0 ≡ isNew (keep (isSeriesOf known) us) y
+new-by-place : (known : ℕ) (us : List Block) (y : Block) → is (place (ownWith known Pair (keyOf Pair y)) us) 0 ≡ isNew (keep (isSeriesOf known) us) y
 unfolding isNew ownWith keyOf pairIs
-new-by-place known us y = no-place (ownWith known false (keyOf false y)) us ∙ ap neg (sym (has-keep-and (pairIs (pair y)) (isSeriesOf known) us))
+new-by-place known us y = no-place (ownWith known Pair (keyOf Pair y)) us ∙ ap neg (sym (has-keep-and (pairIs (pair y)) (isSeriesOf known) us))
 
 -- ---- series in turn
 
@@ -73,7 +74,7 @@ module _ (slot : ℕ) (places : List ℕ) (series : List Block) where
       omega (arith, added-grows m (k + 1) (omega arith), ap length (added-more k), length-append (addedTo slot places series k) (addedAt slot (getD places k 0) (getD series k [])))
 
   -- with the places that the judgement has found, those added are the new ones
-  module _ (known : ℕ) (us : List Block) (f : Found known false us series places) where
+  module _ (known : ℕ) (us : List Block) (f : Found known Pair us series places) where
     abbrev new : Block → Bool
     new = isNew (keep (isSeriesOf known) us)
 

@@ -12,22 +12,23 @@ use Rattle.laws.specs.InPlace.{done}
 use Rattle.paper.specs.Layout.{Block, sender, pair, withSendersSlot}
 use Rattle.paper.specs.Book.{isSenderBlockOf, isSeriesOf, pairIs}
 use Rattle.paper.specs.Acceptance.{senderKept, replaced, renewed}
+use Rattle.index.specs.declared.By.the-variants.{Pair}
 use Rattle.index.specs.Linked.{keyOf, ownWith, Found}
 use Rattle.accept.specs.Steps.{Numbers}
 use Rattle.accept.proofs.Laws.Lent.{done-next}
 
 -- ---- the numbers that the judgement has found: a message names no sender's slot, so that its series are told by their pairs alone
 
-with-pair : (b y : Block) → isSeriesOf 0 y ≡ true → ownWith 0 false (keyOf false b) y ≡ pairIs (pair b) y
+with-pair : (b y : Block) → isSeriesOf 0 y ≡ true → ownWith 0 Pair (keyOf Pair b) y ≡ pairIs (pair b) y
 unfolding ownWith keyOf pairIs _and_
 with-pair b y e = rw e
 
-pub numbers-found : (us series : List Block) (numbers : List ℕ) → All (λ y. isSeriesOf 0 y ≡ true) series → Found 0 false series us numbers → Numbers us series numbers
+pub numbers-found : (us series : List Block) (numbers : List ℕ) → All (λ y. isSeriesOf 0 y ≡ true) series → Found 0 Pair series us numbers → Numbers us series numbers
 unfolding Numbers
 numbers-found us series numbers h f k c =
     f .each k c
-    ∙ place-agree (ownWith 0 false (keyOf false (getD us k []))) (pairIs (pair (getD us k []))) series
-    (all-imply (λ y. isSeriesOf 0 y ≡ true) (λ y. ownWith 0 false (keyOf false (getD us k [])) y ≡ pairIs (pair (getD us k [])) y) (with-pair (getD us k [])) series h)
+    ∙ place-agree (ownWith 0 Pair (keyOf Pair (getD us k []))) (pairIs (pair (getD us k []))) series
+    (all-imply (λ y. isSeriesOf 0 y ≡ true) (λ y. ownWith 0 Pair (keyOf Pair (getD us k [])) y ≡ pairIs (pair (getD us k [])) y) (with-pair (getD us k [])) series h)
 
 -- block i is not yet renewed where those before it are: l are the blocks, a what the first i of them have become
 pub number-of : (f : Block → Block) (l series : List Block) (numbers : List ℕ) → Numbers l series numbers → (i : ℕ) → i < length l → (a : List Block) → a ≡ done (λ r. f) l i
