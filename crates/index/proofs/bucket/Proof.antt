@@ -9,4 +9,7 @@ unfolding bucket
 returns c = (rw (c .pair-tag-of .ensures), omega arith)
 
 pub bucket-spec : {M : Type 1} → statement M
-bucket-spec = tie.close (tie.spec (λ c κs. search needs) (search needs) returns)
+bucket-spec = tie.close (tie.spec
+    (λ c κs. search needs)
+    (λ c. omega arith)
+    returns)

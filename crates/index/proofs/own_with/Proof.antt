@@ -58,4 +58,22 @@ returns-2 c =
 pub own-with-spec : {M : Type 1} → statement M
 own-with-spec =
     tie.close
-    (tie.spec Inv-loop μ-loop (λ c κs. search needs) (search needs) (search needs) (λ c κs. search needs) loop-holds (search needs) (λ c κs. search needs) (λ c κs. search needs) returns (search needs) (λ c. let i = next-inside c in omega arith) next-inside (λ c κs. search needs) loop-less loop-again returns-2)
+    (tie.spec
+    Inv-loop
+    μ-loop
+    (λ c κs. search needs)
+    (λ c. omega arith)
+    (λ c. omega arith)
+    (λ c κs. search needs)
+    loop-holds
+    (λ c. omega arith)
+    (λ c κs. search needs)
+    (λ c κs. search needs)
+    returns
+    (λ c. omega arith)
+    (λ c. let i = next-inside c in omega arith)
+    next-inside
+    (λ c κs. search needs)
+    loop-less
+    loop-again
+    returns-2)

@@ -21,67 +21,63 @@ use Rattle.paper.specs.Book.{isSeries, isSeriesOf}
 use Rattle.index.specs.declared.By.{By}
 use Rattle.index.specs.Linked.{bucket, keyOf, ownIn, seriesIn, Heads, Nexts, Links, ownWith, Found}
 
--- ---- the first that passes p, from t on
+-- ---- of a list, the first that passes p. What f makes of the rest takes no account of those that do not pass; of none it makes z.
 
-module _ {X : Type 0} (p : X → Bool) where
-  pub hit : (d : X) (t : ℕ) (r : List X) (n : ℕ) → suc n ≡ placeFrom t p r → (m : ℕ) × (n ≡ t + m) × (m < length r) × (has p (take m r) ≡ false) × (p (getD r m d) ≡ true)
-  unfolding placeFrom has
-  hit d t [] n e = absurd (omega arith)
-  hit d t (x ∷ xs) n e = split (p x) (λ u. let z : suc n ≡ t + 1 = rw u at e in (0, omega arith, omega arith, refl, u))
-      (λ u. let h = hit d (t + 1) xs n (rw u at e) in (suc (h .0), omega (arith, h .1), omega (arith, h .2), or-no _ _ u (h .3), h .4))
+pub record Skips {X R : Type 0} (p : X → Bool) (f : ℕ → List X → R) (z : R) : Type 0 where
+  pub skip : (k : ℕ) (x : X) (xs : List X) → p x ≡ false → f k (x ∷ xs) ≡ f (k + 1) xs
+  pub empty : (k : ℕ) → f k [] ≡ z
 
-  module _ (q : X → Bool) (f : (x : X) → q x ≡ true → p x ≡ true) where
-    misses : (x : X) → p x ≡ false → q x ≡ false
-    misses x e = split (q x) (λ u. clash (f x u) e) (λ u. u)
+module _ {X R : Type 0} (p : X → Bool) (f : ℕ → List X → R) (z : R) (s : Skips p f z) where
+  none-passes : (t : ℕ) (r : List X) → 0 ≡ placeFrom t p r → f t r ≡ z
+  unfolding placeFrom
+  none-passes t [] e = s .empty t
+  none-passes t (x ∷ xs) e = split (p x) (λ u. absurd (let y : 0 ≡ t + 1 = rw u at e in omega arith)) (λ u. s .skip t x xs u ∙ none-passes (t + 1) xs (rw u at e))
 
-    -- what passes q passes p: up to the first that passes p there is nothing to find
-    none-sought : (t : ℕ) (r : List X) → 0 ≡ placeFrom t p r → placeFrom t q r ≡ 0
-    unfolding placeFrom
-    none-sought t [] e = refl
-    none-sought t (x ∷ xs) e = split (p x) (λ u. absurd (let z : 0 ≡ t + 1 = rw u at e in omega arith)) (λ u. rw (misses x u) (none-sought (t + 1) xs (rw u at e)))
+  first-passes : (d : X) (t : ℕ) (r : List X) (n : ℕ) → suc n ≡ placeFrom t p r → (m : ℕ) × (n ≡ t + m) × (m < length r) × (p (getD r m d) ≡ true) × (f t r ≡ f (t + m) (drop m r))
+  unfolding placeFrom
+  first-passes d t [] n e = absurd (omega arith)
+  first-passes d t (x ∷ xs) n e = split (p x)
+      (λ u. let y : suc n ≡ t + 1 = rw u at e in (0, omega arith, omega arith, u, ap (λ k. f k (x ∷ xs)) (sym (add-zero t))))
+      (λ u.
+      let h = first-passes d (t + 1) xs n (rw u at e) in
+      let m : ℕ = h .0 in
+      let k : t + 1 + m ≡ t + suc m = omega arith in
+      (suc m, omega (arith, h .1), omega (arith, h .2), h .3, s .skip t x xs u ∙ h .4 ∙ ap (λ j. f j (drop m xs)) k))
 
-    passed-by : (m t : ℕ) (r : List X) → has p (take m r) ≡ false → m ≤ length r → placeFrom t q r ≡ placeFrom (t + m) q (drop m r)
-    unfolding placeFrom has
-    passed-by zero t r e h = ap (λ k. placeFrom k q r) (sym (add-zero t))
-    passed-by (suc m) t [] e h = absurd (omega arith)
-    passed-by (suc m) t (x ∷ xs) e h =
-        let k : t + 1 + m ≡ t + suc m = omega arith in
-        rw (misses x (or-left _ _ e)) (passed-by m (t + 1) xs (or-right _ _ e) (omega arith) ∙ ap (λ j. placeFrom j q (drop m xs)) k)
+-- ---- a walk on its way, at the place at: w is what f makes of the blocks from there on
 
--- ---- a search on its way: w is sought by q among the blocks linked by p, and at is the place where it stands
-
-pub record On (p q : Block → Bool) (l : List Block) (w at : ℕ) : Type 0 where
-  pub last : at ≡ 0 → w ≡ 0
+pub record Walk {R : Type 0} (p : Block → Bool) (f : ℕ → List Block → R) (z : R) (l : List Block) (w : R) (at : ℕ) : Type 0 where
+  pub last : at ≡ 0 → w ≡ z
   pub inside : (at ≡ 0 → ⊥) → at - 1 < length l
   pub linked : (at ≡ 0 → ⊥) → p (getD l (at - 1) []) ≡ true
-  pub rest : (at ≡ 0 → ⊥) → w ≡ placeFrom (at - 1) q (drop (at - 1) l)
+  pub rest : (at ≡ 0 → ⊥) → w ≡ f (at - 1) (drop (at - 1) l)
 
-module _ (p q : Block → Bool) (f : (x : Block) → q x ≡ true → p x ≡ true) (l : List Block) (w : ℕ) where
+module _ {R : Type 0} (p : Block → Bool) (f : ℕ → List Block → R) (z : R) (s : Skips p f z) (l : List Block) (w : R) where
   pub record From (t at : ℕ) : Type 0 where
-    pub on : On p q l w at
+    pub walk : Walk p f z l w at
     pub later : (at ≡ 0 → ⊥) → t ≤ at - 1
 
-  from : (t at : ℕ) → at ≡ placeFrom t p (drop t l) → w ≡ placeFrom t q (drop t l) → From t at
+  from : (t at : ℕ) → at ≡ placeFrom t p (drop t l) → w ≡ f t (drop t l) → From t at
   from t zero e a = record {
-    on = record { last = λ z. a ∙ none-sought p q f t (drop t l) e; inside = λ n. absurd (n refl); linked = λ n. absurd (n refl); rest = λ n. absurd (n refl) };
+    walk = record { last = λ y. a ∙ none-passes p f z s t (drop t l) e; inside = λ n. absurd (n refl); linked = λ n. absurd (n refl); rest = λ n. absurd (n refl) };
     later = λ n. absurd (n refl);
   }
   from t (suc n) e a =
-      let h = hit p [] t (drop t l) n e in
+      let h = first-passes p f z s [] t (drop t l) n e in
       let m : ℕ = h .0 in
       let i : m < length (drop t l) = h .2 in
       let k : suc n - 1 ≡ t + m = omega (arith, h .1) in
       record {
-        on = record {
-          last = λ z. absurd (omega arith);
+        walk = record {
+          last = λ y. absurd (omega arith);
           inside = λ _. omega (arith, length-drop t l);
-          linked = λ _. rw k (ap p (sym (getD-drop t l m [])) ∙ h .4);
-          rest = λ _. rw k (a ∙ passed-by p q f m t (drop t l) (h .3) (omega arith) ∙ ap (placeFrom (t + m) q) (drop-drop m t l));
+          linked = λ _. rw k (ap p (sym (getD-drop t l m [])) ∙ h .3);
+          rest = λ _. rw k (a ∙ h .4 ∙ ap (f (t + m)) (drop-drop m t l));
         };
         later = λ _. omega arith;
       }
 
-step-at : (l : List Block) (i : ℕ) → i < length l → Step l i (getD l i [])
+pub step-at : (l : List Block) (i : ℕ) → i < length l → Step l i (getD l i [])
 step-at l i h = record { rest = drop-cons l i [] h ∙ ap (λ k. getD l i [] ∷ drop k l) (sym (add-one i)) }
 
 -- how far it is to the end
@@ -89,42 +85,67 @@ unfoldable pub left : ℕ → ℕ
 left zero = 0
 left (suc n) = 1001 - suc n
 
--- the search among the blocks of some bytes: from the first block of a bucket, and from a block to the next
+left-less : (l : List Block) → length l ≤ 1000 → (j m : ℕ) → (j ≡ 0 → ⊥) → j - 1 < length l → ((m ≡ 0 → ⊥) → j - 1 + 1 ≤ m - 1) → ((m ≡ 0 → ⊥) → m - 1 < length l) → left m < left j
+unfolding left
+left-less l few zero m c d u v = absurd (c refl)
+left-less l few (suc j) zero c d u v = omega arith
+left-less l few (suc j) (suc m) c d u v = omega (arith, u (λ z. omega arith), v (λ z. omega arith))
+
+-- along the links: from the first block of a bucket, and from a block to the next
+module _ (p : ℕ → Block → Bool) (s : Bytes) (g : ℕ) {R : Type 0} (f : ℕ → List Block → R) (z : R) (k : Skips (p g) f z) where
+  pub walk-head : (heads : List ℕ) → Heads p (cut 512 s) 0 heads → {b at : ℕ} {w : R} → b ≡ g → b < 1024 → at ≡ getD heads b 0 → w ≡ f 0 (cut 512 s) → Walk (p g) f z (cut 512 s) w at
+  unfolding Heads
+  walk-head heads a {w = w} e h q v = from (p g) f z k (cut 512 s) w 0 _ (q ∙ ap (λ j. getD heads j 0) e ∙ a g (rw e at h)) v .walk
+
+  module _ (nexts : List ℕ) (a : Nexts p (cut 512 s) 0 nexts) where
+    behind : (i : ℕ) → i < length (cut 512 s) → p g (getD (cut 512 s) i []) ≡ true → {m : ℕ} → m ≡ getD nexts i 0 → {w : R} → w ≡ f (i + 1) (drop (i + 1) (cut 512 s)) → From (p g) f z k (cut 512 s) w (i + 1) m
+    unfolding Nexts
+    behind i h t q {w} v = from (p g) f z k (cut 512 s) w (i + 1) _ (q ∙ a i (omega arith) h g t) v
+
+    pub walk-next : (i : ℕ) → i < length (cut 512 s) → p g (getD (cut 512 s) i []) ≡ true → {m : ℕ} → m ≡ getD nexts i 0 → {w : R} → w ≡ f (i + 1) (drop (i + 1) (cut 512 s)) → Walk (p g) f z (cut 512 s) w m
+    walk-next i h t q v = behind i h t q v .walk
+
+    -- a step further is nearer to the end: places grow, and the end is 0
+    pub walk-nearer : length s / 512 ≤ 1000 → {at : ℕ} {w : R} → Walk (p g) f z (cut 512 s) w at → (at ≡ 0 → ⊥) → {m : ℕ} → m ≡ getD nexts (at - 1) 0 → left m < left at
+    walk-nearer few {at} o n q =
+        let b = behind (at - 1) (o .inside n) (o .linked n) q refl in
+        left-less (cut 512 s) (rw (cut-length 512 s) few) at _ n (o .inside n) (b .later) (b .walk .inside)
+
+pub walk-inside : {R : Type 0} {p : Block → Bool} {f : ℕ → List Block → R} {z : R} (s : Bytes) → length s / 512 ≤ 1000 → {w : R} {at : ℕ} → Walk p f z (cut 512 s) w at → (at ≡ 0 → ⊥) → at - 1 < 1000
+walk-inside s few o n = omega (arith, o .inside n, cut-length 512 s)
+
+-- ---- a search: the first that passes q is sought among the blocks linked by p
+
+abbrev pub On : (Block → Bool) → (Block → Bool) → List Block → ℕ → ℕ → Type 0
+On p q l w at = Walk p (λ k. placeFrom k q) 0 l w at
+
+sought : (p q : Block → Bool) → ((x : Block) → q x ≡ true → p x ≡ true) → Skips p (λ k. placeFrom k q) 0
+unfolding placeFrom
+sought p q f = record { skip = λ k x xs e. let n : q x ≡ false = split (q x) (λ u. clash (f x u) e) (λ u. u) in rw n; empty = λ k. refl }
+
 module _ (p : ℕ → Block → Bool) (s : Bytes) (heads nexts : List ℕ) (few : length s / 512 ≤ 1000) (a : Links p (cut 512 s) 0 heads nexts) (q : Block → Bool) (g : ℕ) (f : (x : Block) → q x ≡ true → p g x ≡ true) where
   abbrev l : List Block
   l = cut 512 s
 
-  left-less : (j m : ℕ) → (j ≡ 0 → ⊥) → j - 1 < length l → ((m ≡ 0 → ⊥) → j - 1 + 1 ≤ m - 1) → ((m ≡ 0 → ⊥) → m - 1 < length l) → left m < left j
-  unfolding left
-  left-less zero m c d u v = absurd (c refl)
-  left-less (suc j) zero c d u v = omega (arith, cut-length 512 s)
-  left-less (suc j) (suc m) c d u v = omega (arith, cut-length 512 s, u (λ z. omega arith), v (λ z. omega arith))
-
   pub begun : {b at : ℕ} → b ≡ g → b < 1024 → at ≡ getD heads b 0 → On (p g) q l (place q l) at
-  unfolding Heads
-  begun {b} e h k = from (p g) q f l (place q l) 0 _ (k ∙ ap (λ j. getD heads j 0) e ∙ a .begin g (rw e at h)) (place-start q l) .on
+  begun e h k = walk-head p s g (λ k. placeFrom k q) 0 (sought (p g) q f) heads (a .begin) e h k (place-start q l)
 
   module _ (at : ℕ) (o : On (p g) q l (place q l) at) (n : at ≡ 0 → ⊥) where
     pub inside : at - 1 < 1000
-    inside = omega (arith, o .inside n, cut-length 512 s)
+    inside = walk-inside s few o n
 
     module _ {t : Bool} {x : Block} (e : x ≡ getD l (at - 1) []) (r : t ≡ q x) where
       pub found : t ≡ true → at ≡ place q l
       found y = let z : at - 1 + 1 ≡ at = omega arith in sym z ∙ place-hit q (o .rest n) (step-at l (at - 1) (o .inside n)) (ap q (sym e) ∙ sym r ∙ y)
 
       module _ (y : t ≡ false) {m : ℕ} (k : m ≡ getD nexts (at - 1) 0) where
-        onward : From (p g) q f l (place q l) (at - 1 + 1) m
-        unfolding Nexts
-        onward =
-            from (p g) q f l (place q l) (at - 1 + 1) _ (k ∙ a .go-on (at - 1) (omega arith) (o .inside n) g (o .linked n))
+        pub going : On (p g) q l (place q l) m
+        going =
+            walk-next p s g (λ k. placeFrom k q) 0 (sought (p g) q f) nexts (a .go-on) (at - 1) (o .inside n) (o .linked n) k
             (place-go q (o .rest n) (step-at l (at - 1) (o .inside n)) (ap q (sym e) ∙ sym r ∙ y))
 
-        pub going : On (p g) q l (place q l) m
-        going = onward .on
-
-        -- a step further is nearer to the end: places grow, and the end is 0
         pub nearer : left m < left at
-        nearer = left-less at m n (o .inside n) (onward .later) (onward .on .inside)
+        nearer = walk-nearer p s g (λ k. placeFrom k q) 0 (sought (p g) q f) nexts (a .go-on) few o n k
 
 -- ---- the links made: block i − 1 is put before those of its bucket that come later, or left out
 

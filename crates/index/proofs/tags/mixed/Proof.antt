@@ -9,4 +9,8 @@ unfolding mixed
 returns c = search needs
 
 pub mixed-spec : {M : Type 1} → statement M
-mixed-spec = tie.close (tie.spec (search needs) (search needs) (search needs) returns)
+mixed-spec = tie.close (tie.spec
+    (λ c. omega arith)
+    (λ c. omega arith)
+    (λ c. omega arith)
+    returns)

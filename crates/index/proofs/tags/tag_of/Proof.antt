@@ -11,7 +11,20 @@ returns c = rw (less-true _ _ (c .if1 .taken))
 
 returns-2 : tie.Need-returns-2
 unfolding tagOf
-returns-2 c = rw (less-false _ _ (c .before .before .before .before .before .before .before .if1 .left)) (cc)
+returns-2 c =
+    let m = c .before .before in
+    let m1 = m .before .before in
+    let n2 = m1 .before in
+    simp (
+      c .mixed3 .ensures,
+      c .before .number-44 .ensures,
+      m .mixed2 .ensures,
+      m .before .number-43 .ensures,
+      m1 .mixed .ensures,
+      n2 .number-42 .ensures,
+      n2 .before .number-4 .ensures,
+      less-false _ _ (n2 .before .before .if1 .left),
+    )
 
 pub tag-of-spec : {M : Type 1} → statement M
 tag-of-spec =
