@@ -1,19 +1,25 @@
--- Blocks by number, and a free block, as the code finds them.
+-- Blocks by number, a free block, and the used slots as a part of a book's bytes, as the code finds them.
 use mathlib.Core.Path.{_≡_, refl, sym, ap, _∙_}
-use mathlib.Core.Bool.{Bool, true, false}
+use mathlib.Core.Bool.{Bool, false}
 use mathlib.Core.List.{List, [], _∷_}
 use Prim.Native.Nat.{ℕ, zero, suc, _+_, _-_, _*_, _/_, _≤_, _<_}
 use native.Mathlib.Nat.{add-sub-cancel-left}
 use native.Mathlib.Omega.{arith}
-use lib.ListN.{length, take, drop, getD, List·getD-eq-default}
+use lib.ListN.{length, take, drop, getD, List·getD-eq-default, drop-of-length-le}
 use Rattle.laws.specs.Tests.{_and_, is}
-use Rattle.laws.specs.Tests.Laws.{split, clash, is-yes, and-left}
-use Rattle.laws.specs.Lists.{every}
+use Rattle.laws.specs.Tests.Laws.{split, is-yes}
+use Rattle.laws.specs.Lists.{every, until}
+use Rattle.laws.specs.Lists.Laws.{until-take, until-length}
 use Rattle.laws.specs.Bytes.Laws.{number-1}
+use Rattle.laws.specs.Slices.{rest-slice}
 use Rattle.laws.specs.Cut.{cut, block}
-use Rattle.laws.specs.Cut.Laws.{cut-length, cut-at}
+use Rattle.laws.specs.Cut.Laws.{cut-length, cut-at, cut-short, take-cut}
 use Rattle.paper.specs.Layout.{Bytes, Block, zeros, kind}
-use Rattle.paper.specs.Book.{numbered, isFree}
+use Rattle.paper.specs.Book.{numbered, slots, isFree, used}
+
+-- a block passes a test as the code found it, x being that block
+pub found-so : (p : Block → Bool) {x y : Block} {t u : Bool} → x ≡ y → t ≡ p x → t ≡ u → p y ≡ u
+found-so p e r q = ap p (sym e) ∙ sym r ∙ q
 
 pub block-none : (s : Bytes) (i : ℕ) → length s / 512 ≤ i → [] ≡ getD (cut 512 s) i []
 block-none s i h = sym (List·getD-eq-default (cut 512 s) [] (rw (cut-length 512 s) h))
@@ -36,3 +42,17 @@ pub kind-used : (b : Block) → (kind b ≡ 0 → ⊥) → isFree b ≡ false
 unfolding kind isFree zeros every _and_
 kind-used [] n = absurd (n (number-1 0 []))
 kind-used (x ∷ b) n = split (is x 0) (λ t. absurd (n (number-1 0 (x ∷ b) ∙ is-yes x 0 t))) (λ t. rw t)
+
+-- ---- the used slots
+
+pub used-none : (book : Bytes) → length book < 512 → cut 512 [] ≡ used book
+unfolding used slots until
+used-none book h = let n : length book ≤ 512 = omega arith in rw (drop-of-length-le book n, cut-short {A = ℕ} 512 [] (omega arith))
+
+pub used-some : (book : Bytes) (u : ℕ) → u ≡ length (until isFree (cut 512 (take (length book - 512) (drop 512 book)))) → cut 512 (take (512 * u) (take (length book - 512) (drop 512 book))) ≡ used book
+unfolding used slots
+used-some book u e =
+    let s : Bytes = drop 512 book in
+    let q : u ≡ length (until isFree (cut 512 s)) = e ∙ ap (λ b. length (until isFree (cut 512 b))) (rest-slice 512 book) in
+    let h : u ≤ length s / 512 = omega (arith, until-length isFree (cut 512 s), cut-length 512 s) in
+    ap (λ b. cut 512 (take (512 * u) b)) (rest-slice 512 book) ∙ take-cut 512 s u h ∙ until-take isFree (cut 512 s) u q

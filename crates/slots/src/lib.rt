@@ -1,11 +1,11 @@
 // Blocks in a row, as they stand in a book's slots and in a message: one by its number, those of a kind, the used ones, a sender's slot.
 ghost use mathlib.Core.Path.{_≡_};
 ghost use mathlib.Core.List.{[]};
-ghost use Prim.Native.Nat.{_*_, _≤_};
+ghost use Prim.Native.Nat.{_*_, _-_, _≤_};
 ghost use lib.ListN.{length, getD};
-ghost use Rattle.laws.specs.Lists.{until, count};
+ghost use Rattle.laws.specs.Lists.{until};
 ghost use Rattle.laws.specs.Cut.{cut};
-ghost use Rattle.paper.specs.Book.{isFree, used, freeSlots, isSender, isSeries, numbered, isSenderBlockOf, slotOf, isSeriesOf};
+ghost use Rattle.paper.specs.Book.{isFree, used, isSender, isSeries, numbered, isSenderBlockOf, slotOf, isSeriesOf};
 use field::all_zero;
 use field::same;
 use layout::kind;
@@ -73,9 +73,9 @@ pub fn is_free(b: &[u8]) -> bool
 pub fn used_count(slots: &[u8]) -> usize
     ensures { λ r. ⌜ (r ≡ length (until isFree (cut 512 (now (slots .entry))))) × (512 * r ≤ length (now (slots .entry))) ⌝ }
 {
-    let many = slots.len() / 512;
+    let blocks = slots.len() / 512;
     let mut i = 0;
-    while i < many {
+    while i < blocks {
         if is_free(block_at(slots, i)) {
             return i;
         }
@@ -84,13 +84,24 @@ pub fn used_count(slots: &[u8]) -> usize
     i
 }
 
+// The used slots, a part of the lent book; none where it has no day block.
+pub fn used_part(book: &[u8]) -> &[u8]
+    ensures { λ r. ⌜ (cut 512 (now r) ≡ used (now (book .entry))) × (length (now r) ≤ length (now (book .entry)) - 512) ⌝ }
+{
+    if book.len() < 512 {
+        return &book[..0];
+    }
+    let slots = &book[512..];
+    &slots[..512 * used_count(slots)]
+}
+
 // The slot of the sender with this EIC; 0 where it has none.
 pub fn slot_of(us: &[u8], e: &[u8]) -> Slot
     ensures { λ r. ⌜ r .0 ≡ slotOf (cut 512 (now (us .entry))) (now (e .entry)) ⌝ }
 {
-    let many = us.len() / 512;
+    let blocks = us.len() / 512;
     let mut i = 0;
-    while i < many {
+    while i < blocks {
         if is_sender_block_of(block_at(us, i), e) {
             return Slot(i + 1);
         }

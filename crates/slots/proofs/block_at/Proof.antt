@@ -1,5 +1,5 @@
 -- Past the last whole block there is none; before it, the part cut out is the block.
-use borrow.Author.Needs.{needs}
+use Rattle.laws.specs.Kit.{needs, arith}
 use Rattle.slots.proofs.Laws.{block-none, block-some}
 use Rattle.slots.proofs.block_at.Statement.{statement}
 use Rattle.slots.proofs.block_at.Tie as tie
@@ -8,11 +8,11 @@ pub block-at-spec : {M : Type 1} → statement M
 block-at-spec =
     tie.close
     (tie.spec
-    (search needs)
+    (λ c. omega arith)
     (λ c. block-none _ _ (c .before .if1 .taken))
-    (search needs)
-    (search needs)
-    (search needs)
-    (search needs)
-    (search needs)
-    (λ c. block-some _ _ (search needs)))
+    (λ c. omega arith)
+    (λ c. omega arith)
+    (λ c. omega arith)
+    (λ c. omega arith)
+    (λ c. omega arith)
+    (λ c. block-some _ _ (omega arith)))

@@ -1,7 +1,6 @@
 -- The kind is the definition's.
 use Rattle.laws.specs.Tests.{is}
 use Rattle.paper.specs.Book.{isSender}
-use native.Mathlib.Omega.{arith}
 use borrow.Author.Needs.{needs}
 use Rattle.slots.proofs.is_sender.Statement.{statement}
 use Rattle.slots.proofs.is_sender.Tie as tie
@@ -11,7 +10,7 @@ kind-requires c κs = search needs
 
 returns : tie.Need-returns
 unfolding isSender is
-returns c = cc
+returns c = rw (c .kind .ensures)
 
 pub is-sender-spec : {M : Type 1} → statement M
 is-sender-spec = tie.close (tie.spec kind-requires returns)

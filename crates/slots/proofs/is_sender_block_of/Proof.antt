@@ -1,7 +1,6 @@
 -- Both tests are the definition's.
 use Rattle.laws.specs.Tests.{_and_}
 use Rattle.paper.specs.Book.{isSenderBlockOf}
-use native.Mathlib.Omega.{arith}
 use borrow.Author.Needs.{needs}
 use Rattle.slots.proofs.is_sender_block_of.Statement.{statement}
 use Rattle.slots.proofs.is_sender_block_of.Tie as tie
@@ -17,7 +16,7 @@ same-requires c κs = search needs
 
 returns : tie.Need-returns
 unfolding isSenderBlockOf _and_
-returns c = cc
+returns c = simp (c .same .ensures, c .before .sender .ensures, c .before .before .is-sender .ensures)
 
 pub is-sender-block-of-spec : {M : Type 1} → statement M
 is-sender-block-of-spec =

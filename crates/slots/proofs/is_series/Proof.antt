@@ -1,7 +1,6 @@
 -- The kind is the definition's.
 use Rattle.laws.specs.Tests.{is}
 use Rattle.paper.specs.Book.{isSeries}
-use native.Mathlib.Omega.{arith}
 use borrow.Author.Needs.{needs}
 use Rattle.slots.proofs.is_series.Statement.{statement}
 use Rattle.slots.proofs.is_series.Tie as tie
@@ -11,7 +10,7 @@ kind-requires c κs = search needs
 
 returns : tie.Need-returns
 unfolding isSeries is
-returns c = cc
+returns c = rw (c .kind .ensures)
 
 pub is-series-spec : {M : Type 1} → statement M
 is-series-spec = tie.close (tie.spec kind-requires returns)

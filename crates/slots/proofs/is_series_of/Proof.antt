@@ -1,7 +1,6 @@
 -- Both tests are the definition's.
 use Rattle.laws.specs.Tests.{_and_, is}
 use Rattle.paper.specs.Book.{isSeriesOf}
-use native.Mathlib.Omega.{arith}
 use borrow.Author.Needs.{needs}
 use Rattle.slots.proofs.is_series_of.Statement.{statement}
 use Rattle.slots.proofs.is_series_of.Tie as tie
@@ -14,7 +13,7 @@ senders-slot-requires c κs = search needs
 
 returns : tie.Need-returns
 unfolding isSeriesOf _and_ is
-returns c = cc
+returns c = let s = c .before .before in simp (s .senders-slot .ensures, s .before .is-series .ensures)
 
 pub is-series-of-spec : {M : Type 1} → statement M
 is-series-of-spec = tie.close (tie.spec is-series-requires senders-slot-requires returns)

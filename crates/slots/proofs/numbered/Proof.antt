@@ -1,5 +1,5 @@
 -- The block with number k has k − 1 before it.
-use borrow.Author.Needs.{needs}
+use Rattle.laws.specs.Kit.{needs, arith}
 use Rattle.slots.proofs.Laws.{numbered-none, numbered-some}
 use Rattle.slots.proofs.numbered.Statement.{statement}
 use Rattle.slots.proofs.numbered.Tie as tie
@@ -8,8 +8,8 @@ pub numbered-spec : {M : Type 1} → statement M
 numbered-spec =
     tie.close
     (tie.spec
-    (search needs)
+    (λ c. omega arith)
     (λ c. numbered-none _ _ (c .before .if1 .taken))
-    (search needs)
+    (λ c. omega arith)
     (λ c κs. search needs)
     (λ c. numbered-some _ _ (c .before .if1 .left) (c .block-at .ensures)))
