@@ -1,7 +1,7 @@
 // Little-endian numbers in bytes lent by the caller. A byte past the end counts as 0 when it is read and is passed over when it is written, as
 // the definitions have it, so that no function here asks anything of lengths or offsets.
 ghost use mathlib.Core.Path.{_≡_};
-ghost use Prim.Native.Nat.{_+_, _*_};
+ghost use Prim.Native.Nat.{_+_, _*_, min};
 ghost use lib.ListN.{set};
 ghost use Rattle.laws.specs.Bytes.{number, written, little};
 
@@ -64,7 +64,7 @@ pub fn number_4(s: &[u8], at: usize) -> u32
     first_4(&s[at..])
 }
 
-fn put_byte(s: &mut [u8], at: usize, x: u8)
+pub fn put_byte(s: &mut [u8], at: usize, x: u8)
     ensures { λ _. ⌜ now (s .exit) ≡ set (now (s .entry)) at x ⌝ }
 {
     if at < s.len() {
@@ -101,5 +101,32 @@ pub fn write_4(s: &mut [u8], at: usize, x: u32)
 {
     if at < s.len() {
         write_first_4(&mut s[at..], x);
+    }
+}
+
+// How far two rows go together.
+fn shorter(m: usize, n: usize) -> usize
+    ensures { λ r. ⌜ r ≡ min m n ⌝ }
+{
+    if m < n { m } else { n }
+}
+
+// Over the first bytes, as far as both rows go.
+fn write_first(s: &mut [u8], v: &[u8])
+    ensures { λ _. ⌜ now (s .exit) ≡ written 0 (now (v .entry)) (now (s .entry)) ⌝ }
+{
+    let n = shorter(s.len(), v.len());
+    let mut i = 0;
+    while i < n {
+        s[i] = v[i];
+        i += 1;
+    }
+}
+
+pub fn write_bytes(s: &mut [u8], at: usize, v: &[u8])
+    ensures { λ _. ⌜ now (s .exit) ≡ written at (now (v .entry)) (now (s .entry)) ⌝ }
+{
+    if at < s.len() {
+        write_first(&mut s[at..], v);
     }
 }

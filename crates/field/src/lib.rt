@@ -1,9 +1,9 @@
 // Parts of blocks, and the fields that stand in them: sixteen bytes of an id or of a code, eight digits of a day.
 ghost use mathlib.Core.Path.{_≡_};
-ghost use Prim.Native.Nat.{_≤_};
-ghost use lib.ListN.{length};
+ghost use Prim.Native.Nat.{_≤_, min};
+ghost use lib.ListN.{length, take};
 ghost use Rattle.laws.specs.Tests.{_and_, is};
-ghost use Rattle.laws.specs.Lists.{same, every};
+ghost use Rattle.laws.specs.Lists.{same, every, until};
 ghost use Rattle.laws.specs.Bytes.{part};
 ghost use Rattle.paper.specs.Layout.{zeros};
 ghost use Rattle.paper.specs.Ids.{digit, letter, hyphen, idCharacter, idText, idWellFormed, dayWellFormed};
@@ -19,6 +19,16 @@ pub fn part_of(s: &[u8], at: usize, n: usize) -> &[u8]
         return &s[at..];
     }
     &s[at..at + n]
+}
+
+// n, or where the buffer has fewer bytes as many as it has: `&buffer[..k]` takes such a k with no proof, by what is said last of it.
+pub fn within(n: usize, buffer: &[u8]) -> usize
+    ensures { λ r. ⌜ (r ≡ min n (length (now (buffer .entry)))) × (r ≤ length (now (buffer .entry))) × (r ≡ length (take r (now (buffer .entry)))) ⌝ }
+{
+    if n <= buffer.len() {
+        return n;
+    }
+    buffer.len()
 }
 
 // Looks at every byte, whatever it finds: so several go in one step of the machine.
@@ -115,8 +125,8 @@ fn all_id_characters(s: &[u8]) -> bool
     ok
 }
 
-// Of a day.
-fn all_digits(s: &[u8]) -> bool
+// Of a day, and of a number as text.
+pub fn all_digits(s: &[u8]) -> bool
     ensures { λ r. ⌜ r ≡ every digit (now (s .entry)) ⌝ }
 {
     let mut ok = true;
@@ -128,13 +138,13 @@ fn all_digits(s: &[u8]) -> bool
     ok
 }
 
-// How far an id goes: up to its first zero byte, or to the field's end.
-pub fn id_text_length(s: &[u8]) -> usize
-    ensures { λ r. ⌜ (r ≡ length (idText (now (s .entry)))) × (r ≤ length (now (s .entry))) ⌝ }
+// How many bytes stand before the first x, all of them where there is none: an id goes up to its first zero byte, a line up to its end.
+pub fn length_before(s: &[u8], x: u8) -> usize
+    ensures { λ r. ⌜ (r ≡ length (until (λ y. is y x) (now (s .entry)))) × (r ≤ length (now (s .entry))) ⌝ }
 {
     let mut i = 0;
     while i < s.len() {
-        if s[i] == 0 {
+        if s[i] == x {
             return i;
         }
         i += 1;
@@ -142,18 +152,24 @@ pub fn id_text_length(s: &[u8]) -> usize
     i
 }
 
+pub fn part_before(s: &[u8], x: u8) -> &[u8]
+    ensures { λ r. ⌜ now r ≡ until (λ y. is y x) (now (s .entry)) ⌝ }
+{
+    part_of(s, 0, length_before(s, x))
+}
+
 // An id as it is shown, without its zero bytes.
 pub fn id_text(s: &[u8]) -> &[u8]
     ensures { λ r. ⌜ now r ≡ idText (now (s .entry)) ⌝ }
 {
-    part_of(s, 0, id_text_length(s))
+    part_before(s, 0)
 }
 
 // An id is "1 to 16 of A–Z, 0–9 and hyphen, then zero bytes": nothing stands behind its first zero byte.
 pub fn id_well_formed(s: &[u8]) -> bool
     ensures { λ r. ⌜ r ≡ idWellFormed (now (s .entry)) ⌝ }
 {
-    let n = id_text_length(s);
+    let n = length_before(s, 0);
     (s.len() == 16) & (1 <= n) & all_id_characters(&s[..n]) & all_zero(&s[n..])
 }
 

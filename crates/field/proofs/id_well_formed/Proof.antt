@@ -16,7 +16,7 @@ unfolding idWellFormed _and_ is upto idText
 returns c =
     let found = c .before .before .before .before in
     let s = now (found .before .before .args .s) in
-    let n = found .id-text-length .ensures .0 in
+    let n = found .length-before .ensures .0 in
     let front = c .before .before .all-id-characters .ensures ∙ ap (every idCharacter) (until-take _ s _ n) in
     let back = c .all-zero .ensures ∙ ap zeros (rest-slice _ s) in
     rw (front, back, n)
@@ -26,7 +26,7 @@ id-well-formed-spec =
     tie.close
     (tie.spec
     (search needs)
-    (λ c. sym (length-take-le _ _ (c .before .id-text-length .ensures .1)))
+    (λ c. sym (length-take-le _ _ (c .before .length-before .ensures .1)))
     (search needs)
     (search needs)
     (search needs)

@@ -1,20 +1,20 @@
--- The bytes passed are none of them zero, so that the text is as long as these and the text of what is left.
+-- None of the bytes passed is x, so that what stands before the first is as long as these and what stands before it in the rest.
 use Rattle.laws.specs.Kit.{needs, arith, _≡_, _≤_, _-_, _+_, length, drop, step-byte, end-list}
 use Rattle.laws.specs.Tests.Laws.{is-equal, is-other}
 use Rattle.laws.specs.Loops.{until-rest-start, until-rest-go, until-rest-hit, until-rest-end}
-use Rattle.paper.specs.Ids.{idText}
-use Rattle.field.proofs.id_text_length.Statement.{statement}
-use Rattle.field.proofs.id_text_length.Tie as tie
+use Rattle.laws.specs.Tests.{is}
+use Rattle.laws.specs.Lists.{until}
+use Rattle.field.proofs.length_before.Statement.{statement}
+use Rattle.field.proofs.length_before.Tie as tie
 
 abbrev Inv-loop : tie.InvT-loop
-Inv-loop s i₀ i = (i ≤ length s) × (length (idText s) ≡ i + length (idText (drop i s)))
+Inv-loop s x i₀ i = (i ≤ length s) × (length (until (λ y. is y x) s) ≡ i + length (until (λ y. is y x) (drop i s)))
 
 abbrev μ-loop : tie.MeasureT-loop
-μ-loop s i₀ i = length s - i
+μ-loop s x i₀ i = length s - i
 
-pub id-text-length-spec : {M : Type 1} → statement M
-unfolding idText
-id-text-length-spec =
+pub length-before-spec : {M : Type 1} → statement M
+length-before-spec =
     tie.close
     (tie.spec
     Inv-loop
