@@ -1,4 +1,4 @@
-// The fields of a block by name: with `check` of the crate block, the only code that names an offset. A field of a block that is too short is
+// The fields of a block by name, read here and written in `write`: with `check` of the crate block, the only code that names an offset. A field of a block that is too short is
 // shorter too, and a number read of it counts the missing bytes as 0, as the definitions have it.
 ghost use mathlib.Core.Path.{_≡_};
 ghost use Prim.Native.Nat.{_<_, _≤_};
@@ -11,6 +11,8 @@ use field::part_of;
 use paper::Minute;
 use paper::Position;
 use paper::Slot;
+
+pub mod write;
 
 pub fn kind(b: &[u8]) -> u8
     ensures { λ r. ⌜ r ≡ kind (now (b .entry)) ⌝ }

@@ -1,12 +1,9 @@
 -- The offset and the width are the definition's.
-use borrow.Author.Needs.{needs}
+use Rattle.laws.specs.Kit.{arith}
 use Rattle.paper.specs.Layout.{first}
 use Rattle.layout.proofs.first.Statement.{statement}
 use Rattle.layout.proofs.first.Tie as tie
 
-returns : tie.Need-returns
-unfolding first
-returns c = search needs
-
 pub first-spec : {M : Type 1} → statement M
-first-spec = tie.close (tie.spec (search needs) (search needs) returns)
+unfolding first
+first-spec = tie.close (tie.spec (λ c κs. tt) (λ c. omega arith) (λ c. c .byte-or-zero .ensures))

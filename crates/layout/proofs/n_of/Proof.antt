@@ -1,12 +1,8 @@
 -- The offset and the width are the definition's.
-use borrow.Author.Needs.{needs}
 use Rattle.paper.specs.Layout.{nOf}
 use Rattle.layout.proofs.n_of.Statement.{statement}
 use Rattle.layout.proofs.n_of.Tie as tie
 
-returns : tie.Need-returns
-unfolding nOf
-returns c = search needs
-
 pub n-of-spec : {M : Type 1} → statement M
-n-of-spec = tie.close (tie.spec (search needs) returns)
+unfolding nOf
+n-of-spec = tie.close (tie.spec (λ c κs. tt) (λ c. c .byte-or-zero .ensures))

@@ -1,12 +1,9 @@
 -- The offset and the width are the definition's.
-use borrow.Author.Needs.{needs}
+use Rattle.laws.specs.Kit.{arith}
 use Rattle.paper.specs.Layout.{partner}
 use Rattle.layout.proofs.partner.Statement.{statement}
 use Rattle.layout.proofs.partner.Tie as tie
 
-returns : tie.Need-returns
-unfolding partner
-returns c = search needs
-
 pub partner-spec : {M : Type 1} → statement M
-partner-spec = tie.close (tie.spec (search needs) (search needs) returns)
+unfolding partner
+partner-spec = tie.close (tie.spec (λ c κs. tt) (λ c. omega arith) (λ c. c .number-2 .ensures))

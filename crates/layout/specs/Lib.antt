@@ -1,0 +1,2 @@
+-- The fields that code writes, beyond those of the paper.
+pub mod Written
