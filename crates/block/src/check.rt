@@ -1,6 +1,6 @@
 // The check of a block: "take 32 times the check, less the check, plus the byte", by wrapping sums and one wrapping difference.
 ghost use mathlib.Core.Path.{_≡_};
-ghost use Prim.Native.Nat.{_+_, _*_, _%_, _≤_, min};
+ghost use Prim.Native.Nat.{_+_, _*_, _%_, _≤_};
 ghost use lib.ListN.{length};
 ghost use Rattle.laws.specs.Tests.{_and_};
 ghost use Rattle.laws.specs.Lists.{every};
@@ -8,6 +8,7 @@ ghost use Rattle.laws.specs.Bytes.{part};
 ghost use Rattle.laws.specs.Cut.{cut};
 ghost use Rattle.paper.specs.Check.{checkStep, checkFrom, checkOf, checkRight, sealed};
 use super::numbers::number_4;
+use super::numbers::whole_4;
 use super::numbers::write_4;
 
 // 32 times x, less x: five doublings and a difference.
@@ -28,19 +29,20 @@ pub fn check_step(c: u32, byte: u8) -> u32
     std::num::wrapping_add_u32(thirty_one_times(c), byte as u32)
 }
 
+// The check's own share after four steps: 31 to the fourth times it.
+fn after_four_steps(check: u32) -> u32
+    ensures { λ r. ⌜ r ≡ (923521 * check) % 4294967296 ⌝ }
+{
+    thirty_one_times(thirty_one_times(thirty_one_times(thirty_one_times(check))))
+}
+
 // Four steps. The check waits for none of the four bytes' own sums, and a compiler makes one multiplication of doublings of doublings: each byte
 // costs less than a step by itself.
 fn check_four_bytes(c: u32, w: u8, x: u8, y: u8, z: u8) -> u32
     ensures { λ r. ⌜ r ≡ checkStep (checkStep (checkStep (checkStep c w) x) y) z ⌝ }
 {
-    let four = thirty_one_times(thirty_one_times(thirty_one_times(thirty_one_times(c))));
-    let three = thirty_one_times(thirty_one_times(thirty_one_times(w as u32)));
-    let two = thirty_one_times(thirty_one_times(x as u32));
-    let one = std::num::wrapping_add_u32(thirty_one_times(y as u32), z as u32);
-    std::num::wrapping_add_u32(
-        four,
-        std::num::wrapping_add_u32(three, std::num::wrapping_add_u32(two, one)),
-    )
+    let bytes = check_step(check_step(check_step(w as u32, x), y), z);
+    std::num::wrapping_add_u32(after_four_steps(c), bytes)
 }
 
 fn check_four_at(c: u32, s: &[u8], i: usize) -> u32
@@ -98,72 +100,25 @@ pub fn seal(block: &mut [u8])
     write_4(block, 508, check);
 }
 
-// The checks of four blocks side by side.
-pub struct FourChecks {
-    pub a: u32,
-    pub b: u32,
-    pub c: u32,
-    pub d: u32,
-}
-
-// Four lanes of one length: no lane waits for another, and one count serves all.
-fn check_lanes(a: &[u8], b: &[u8], c: &[u8], d: &[u8]) -> FourChecks
-    requires { ⌜ (length (now a) ≡ 508) × (length (now b) ≡ 508) × (length (now c) ≡ 508) × (length (now d) ≡ 508) ⌝ }
-    ensures { λ r. ⌜ (r .a ≡ checkFrom 0 (now (a .entry))) × (r .b ≡ checkFrom 0 (now (b .entry))) × (r .c ≡ checkFrom 0 (now (c .entry))) × (r .d ≡ checkFrom 0 (now (d .entry))) ⌝ }
+// Four blocks in a row, side by side: no lane waits for another, and one count serves all.
+fn four_right(s: &[u8]) -> bool
+    requires { ⌜ length (now s) ≡ 2048 ⌝ }
+    ensures { λ r. ⌜ r ≡ (checkRight (part 0 512 (now (s .entry))) and (checkRight (part 512 512 (now (s .entry))) and (checkRight (part 1024 512 (now (s .entry))) and checkRight (part 1536 512 (now (s .entry)))))) ⌝ }
 {
-    let mut ka: u32 = 0;
-    let mut kb: u32 = 0;
-    let mut kc: u32 = 0;
-    let mut kd: u32 = 0;
+    let mut a: u32 = 0;
+    let mut b: u32 = 0;
+    let mut c: u32 = 0;
+    let mut d: u32 = 0;
     let mut i = 0;
     while i < 508 {
-        ka = check_four_at(ka, a, i);
-        kb = check_four_at(kb, b, i);
-        kc = check_four_at(kc, c, i);
-        kd = check_four_at(kd, d, i);
+        a = check_four_at(a, s, i);
+        b = check_four_at(b, s, 512 + i);
+        c = check_four_at(c, s, 1024 + i);
+        d = check_four_at(d, s, 1536 + i);
         i += 4;
     }
-    FourChecks {
-        a: ka,
-        b: kb,
-        c: kc,
-        d: kd,
-    }
-}
-
-// Blocks with too few bytes for the lanes are taken one by one.
-fn check_singly(a: &[u8], b: &[u8], c: &[u8], d: &[u8]) -> FourChecks
-    ensures { λ r. ⌜ (r .a ≡ checkOf (now (a .entry))) × (r .b ≡ checkOf (now (b .entry))) × (r .c ≡ checkOf (now (c .entry))) × (r .d ≡ checkOf (now (d .entry))) ⌝ }
-{
-    FourChecks {
-        a: check_of(a),
-        b: check_of(b),
-        c: check_of(c),
-        d: check_of(d),
-    }
-}
-
-fn shorter(m: usize, n: usize) -> usize
-    ensures { λ r. ⌜ r ≡ min m n ⌝ }
-{
-    if m < n { m } else { n }
-}
-
-pub fn check_four(a: &[u8], b: &[u8], c: &[u8], d: &[u8]) -> FourChecks
-    ensures { λ r. ⌜ (r .a ≡ checkOf (now (a .entry))) × (r .b ≡ checkOf (now (b .entry))) × (r .c ≡ checkOf (now (c .entry))) × (r .d ≡ checkOf (now (d .entry))) ⌝ }
-{
-    if shorter(shorter(a.len(), b.len()), shorter(c.len(), d.len())) < 508 {
-        return check_singly(a, b, c, d);
-    }
-    check_lanes(&a[..508], &b[..508], &c[..508], &d[..508])
-}
-
-fn four_right(a: &[u8], b: &[u8], c: &[u8], d: &[u8]) -> bool
-    ensures { λ r. ⌜ r ≡ (checkRight (now (a .entry)) and (checkRight (now (b .entry)) and (checkRight (now (c .entry)) and checkRight (now (d .entry))))) ⌝ }
-{
-    let r = check_four(a, b, c, d);
-    (number_4(a, 508) == r.a)
-        & ((number_4(b, 508) == r.b) & ((number_4(c, 508) == r.c) & (number_4(d, 508) == r.d)))
+    (whole_4(s, 508) == a)
+        & ((whole_4(s, 1020) == b) & ((whole_4(s, 1532) == c) & (whole_4(s, 2044) == d)))
 }
 
 // Bytes behind the last whole block are no block.
@@ -186,13 +141,7 @@ pub fn checks_right(s: &[u8]) -> bool
     let mut right = true;
     let mut i = 0;
     while 2048 <= s.len() - i {
-        right = right
-            & four_right(
-                &s[i..i + 512],
-                &s[i + 512..i + 1024],
-                &s[i + 1024..i + 1536],
-                &s[i + 1536..i + 2048],
-            );
+        right = right & four_right(&s[i..i + 2048]);
         i += 2048;
     }
     right & checks_right_singly(&s[i..])

@@ -1,8 +1,8 @@
 // Little-endian numbers in bytes lent by the caller. A byte past the end counts as 0 when it is read and is passed over when it is written, as
 // the definitions have it, so that no function here asks anything of lengths or offsets.
 ghost use mathlib.Core.Path.{_≡_};
-ghost use Prim.Native.Nat.{_+_, _*_, min};
-ghost use lib.ListN.{set};
+ghost use Prim.Native.Nat.{_+_, _*_, _≤_, min};
+ghost use lib.ListN.{length, set};
 ghost use Rattle.laws.specs.Bytes.{number, written, little};
 
 pub fn byte_or_zero(s: &[u8], at: usize) -> u8
@@ -25,7 +25,6 @@ fn four_bytes(low: u16, high: u16) -> u32
     low as u32 + 65536 * (high as u32)
 }
 
-// A slice long enough is read with no further test, and its bytes as one load.
 fn first_2(s: &[u8]) -> u16
     ensures { λ r. ⌜ r ≡ number 2 0 (now (s .entry)) ⌝ }
 {
@@ -35,6 +34,14 @@ fn first_2(s: &[u8]) -> u16
     two_bytes(s[0], s[1])
 }
 
+// Four bytes that are all there: no further test, and one load.
+pub fn whole_4(s: &[u8], at: usize) -> u32
+    requires { ⌜ at + 4 ≤ length (now s) ⌝ }
+    ensures { λ r. ⌜ r ≡ number 4 at (now (s .entry)) ⌝ }
+{
+    four_bytes(two_bytes(s[at], s[at + 1]), two_bytes(s[at + 2], s[at + 3]))
+}
+
 fn first_4(s: &[u8]) -> u32
     ensures { λ r. ⌜ r ≡ number 4 0 (now (s .entry)) ⌝ }
 {
@@ -42,7 +49,7 @@ fn first_4(s: &[u8]) -> u32
         let low = two_bytes(byte_or_zero(s, 0), byte_or_zero(s, 1));
         return four_bytes(low, two_bytes(byte_or_zero(s, 2), 0));
     }
-    four_bytes(two_bytes(s[0], s[1]), two_bytes(s[2], s[3]))
+    whole_4(s, 0)
 }
 
 // The rest of the slice is taken first: `at` plus a byte's place could pass the largest number.

@@ -3,7 +3,7 @@ use mathlib.Core.Path.{_≡_, refl, sym, ap, _∙_}
 use mathlib.Core.Bool.{Bool, true}
 use mathlib.Core.List.{List, _∷_}
 use Prim.Native.Nat.{ℕ, _+_, _-_, _*_, _≤_, _<_}
-use native.Mathlib.Nat.{mul-zero, mul-one}
+use native.Mathlib.Nat.{mul-zero, mul-one, add-sub-cancel-left}
 use native.Mathlib.Omega.{arith}
 use lib.ListN.{length, take, drop, length-drop}
 use lib.Seq.{drop-drop}
@@ -11,6 +11,7 @@ use Rattle.laws.specs.Tests.{_and_}
 use Rattle.laws.specs.Tests.Laws.{and-true, and-assoc}
 use Rattle.laws.specs.Lists.{every}
 use Rattle.laws.specs.Bytes.{part}
+use Rattle.laws.specs.Bytes.Laws.{part-take}
 use Rattle.laws.specs.Slices.{part-slice}
 use Rattle.laws.specs.Cut.{cut, block}
 use Rattle.laws.specs.Cut.Laws.{width-blocks, block-zero, drop-cut, cut-drop, cut-short}
@@ -25,24 +26,25 @@ module _ (p : List ℕ → Bool) where
       let f : cut w (drop (i + w) s) ≡ drop 1 (cut w (drop i s)) = ap (cut w) (sym (drop-drop w i s) ∙ ap (λ n. drop n (drop i s)) (sym (mul-one w))) ∙ cut-drop w (drop i s) 1 in
       rw (e, block-zero w (drop i s), f)
 
+  -- of four in a row
+  every-four : (v : List ℕ) → 2048 ≤ length v → every p (cut 512 v) ≡ ((p (part 0 512 v) and (p (part 512 512 v) and (p (part 1024 512 v) and p (part 1536 512 v)))) and every p (cut 512 (drop 2048 v)))
+  every-four v h =
+      let k : 0 < 512 = omega arith in
+      rw (every-cut 512 0 v k (omega arith), every-cut 512 512 v k (omega arith), every-cut 512 1024 v k (omega arith), every-cut 512 1536 v k (omega arith)) (simp and-assoc)
+
   -- turns of loops over blocks of 512, one and four at once: what is tested and what is left still give the whole
   pub turn-1 : (i : ℕ) (s : List ℕ) (ok : Bool) {q t : Bool} → i + 512 ≤ length s → q ≡ p (take (i + 512 - i) (drop i s))
       → (ok and every p (cut 512 (drop i s))) ≡ t → (ok and q and every p (cut 512 (drop (i + 512) s))) ≡ t
   turn-1 i s ok h e g = rw (e, part-slice i (i + 512) 512 s refl, and-assoc, ← every-cut 512 i s (omega arith) h) g
 
   pub turn-4 : (i : ℕ) (s : List ℕ) (ok : Bool) {q t : Bool} → i + 2048 ≤ length s
-      → q ≡ (p (take (i + 512 - i) (drop i s)) and (p (take (i + 1024 - (i + 512)) (drop (i + 512) s)) and (p (take (i + 1536 - (i + 1024)) (drop (i + 1024) s)) and p (take (i + 2048 - (i + 1536)) (drop (i + 1536) s)))))
+      → q ≡ (p (part 0 512 (take (i + 2048 - i) (drop i s))) and (p (part 512 512 (take (i + 2048 - i) (drop i s))) and (p (part 1024 512 (take (i + 2048 - i) (drop i s))) and p (part 1536 512 (take (i + 2048 - i) (drop i s))))))
       → (ok and every p (cut 512 (drop i s))) ≡ t → (ok and q and every p (cut 512 (drop (i + 2048) s))) ≡ t
   turn-4 i s ok h e g =
-      let e1 : i + 1024 ≡ i + 512 + 512 = omega arith in
-      let e2 : i + 1536 ≡ i + 512 + 512 + 512 = omega arith in
-      let e3 : i + 2048 ≡ i + 512 + 512 + 512 + 512 = omega arith in
-      let l1 : i + 512 + 512 ≤ length s = omega arith in
-      let l2 : i + 512 + 512 + 512 ≤ length s = omega arith in
-      let l3 : i + 512 + 512 + 512 + 512 ≤ length s = omega arith in
-      rw (e, e1, e2, e3)
-      (simp (part-slice i (i + 512) 512 s refl, part-slice (i + 512) (i + 512 + 512) 512 s refl, part-slice (i + 512 + 512) (i + 512 + 512 + 512) 512 s refl, part-slice (i + 512 + 512 + 512) (i + 512 + 512 + 512 + 512) 512 s refl, and-assoc)
-      (simp (every-cut 512 i s (omega arith) (omega arith), every-cut 512 (i + 512) s (omega arith) l1, every-cut 512 (i + 512 + 512) s (omega arith) l2, every-cut 512 (i + 512 + 512 + 512) s (omega arith) l3) at g))
+      let v = drop i s in
+      let l : 2048 ≤ length v = rw (length-drop i s) (omega arith) in
+      rw (e, add-sub-cancel-left, part-take 0 512 2048 v (omega arith), part-take 512 512 2048 v (omega arith), part-take 1024 512 2048 v (omega arith), part-take 1536 512 2048 v (omega arith), ← drop-drop 2048 i s)
+      (and-assoc ok _ _ ∙ (rw (every-four v l) at g))
 
   -- their end
   pub turned : (i : ℕ) (s : List ℕ) (ok : Bool) {t : Bool} → length s - i < 512 → (ok and every p (cut 512 (drop i s))) ≡ t → ok ≡ t

@@ -3,11 +3,13 @@ use mathlib.Core.Path.{_≡_, sym, _∙_}
 use mathlib.Core.List.{List}
 use Prim.Native.Nat.{ℕ, suc, _+_, _≤_}
 use native.Mathlib.Omega.{arith}
-use lib.ListN.{length, drop, getD}
-use lib.Seq.{drop-cons}
-use Rattle.laws.specs.Bytes.{part}
-use Rattle.paper.specs.Check.{checkStep, checkFrom}
-use Rattle.facts.specs.Check.{check-from-part, check-from-end}
+use lib.ListN.{length, take, drop, getD}
+use lib.Seq.{drop-cons, take-take}
+use Rattle.laws.specs.Tests.{is}
+use Rattle.laws.specs.Bytes.{part, number}
+use Rattle.laws.specs.Bytes.Laws.{part-none, part-add, number-part}
+use Rattle.paper.specs.Check.{checkStep, checkFrom, checkOf, checkRight}
+use Rattle.facts.specs.Check.{check-from-append, check-from-part}
 
 -- four bytes of a list
 pub four-at : (c i : ℕ) (s : List ℕ) {r : ℕ} → i + 4 ≤ length s
@@ -24,6 +26,20 @@ four-at c i s h e =
 pub turn : (c i n : ℕ) (s : List ℕ) {e t : ℕ} → e ≡ checkFrom c (part i n s) → checkFrom c (drop i s) ≡ t → checkFrom e (drop (i + n) s) ≡ t
 turn c i n s q p = rw q (sym (check-from-part c i n s) ∙ p)
 
--- its end
-pub done : (c i : ℕ) (s : List ℕ) {t : ℕ} → length s ≤ i → checkFrom c (drop i s) ≡ t → c ≡ t
-done c i s h p = sym (check-from-end c i s h) ∙ p
+-- ---- lanes side by side: a lane's check so far is that of the i bytes from its start on
+
+pub lane-start : (o : ℕ) (s : List ℕ) → 0 ≡ checkFrom 0 (part o 0 s)
+unfolding checkFrom
+lane-start o s = rw (part-none o s)
+
+pub lane-more : (o i : ℕ) (s : List ℕ) {at k r : ℕ} → at ≡ o + i → k ≡ checkFrom 0 (part o i s) → r ≡ checkFrom k (part at 4 s) → r ≡ checkFrom 0 (part o (i + 4) s)
+lane-more o i s q e f = rw (f, e, q, part-add o i 4 s) (sym (check-from-append 0 (part o i s) (part (o + i) 4 s)))
+
+part-front : (o m n : ℕ) (s : List ℕ) → m ≤ n → take m (part o n s) ≡ part o m s
+unfolding part
+part-front o m n s h = take-take m n (drop o s) h
+
+-- its block's check, all of it taken
+pub lane-right : (o i : ℕ) (s : List ℕ) {n k : ℕ} → i ≡ 508 → n ≡ number 4 (o + 508) s → k ≡ checkFrom 0 (part o i s) → is n k ≡ checkRight (part o 512 s)
+unfolding checkRight checkOf
+lane-right o i s q e f = rw (e, f, q, number-part 4 o 512 508 s (omega arith), part-front o 508 512 s (omega arith))

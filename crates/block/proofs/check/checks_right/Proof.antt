@@ -1,5 +1,6 @@
 -- The blocks tested and the blocks that are left still give the test of all, and the last one to three are taken singly.
 use Rattle.laws.specs.Kit.{_≡_, ap, _∙_, _-_, _≤_, length, drop, needs, arith}
+use lib.ListN.{length-take, length-drop}
 use denote.Ref.{now}
 use Rattle.laws.specs.Tests.{_and_}
 use Rattle.laws.specs.Lists.{every}
@@ -22,8 +23,8 @@ loop-holds c = search needs
 
 loop-again : tie.Need-loop-again Inv-loop μ-loop
 unfolding _and_
-loop-again c = let l = c .before .before .before .before .before .before in
-    (search needs, turn-4 checkRight (l .loop .i) (now (l .before .before .args .s)) (l .loop .right) (omega arith) (c .four-right .ensures) (l .loop .inv .1))
+loop-again c = let l = c .before .before .before in
+    (omega arith, turn-4 checkRight (l .loop .i) (now (l .before .before .args .s)) (l .loop .right) (omega arith) (c .four-right .ensures) (l .loop .inv .1))
 
 returns : tie.Need-returns Inv-loop μ-loop
 unfolding _and_
@@ -34,7 +35,5 @@ returns c = let l = c .before .before .before in
 pub checks-right-spec : {M : Type 1} → statement M
 checks-right-spec =
     tie.close
-    (tie.spec Inv-loop μ-loop loop-holds (search needs) (search needs) (search needs) (search needs) (search needs) (search needs) (search needs)
-    (search needs) (search needs) (search needs) (search needs) (search needs) (search needs) (search needs) (search needs) (search needs)
-    (search needs) (search needs) (search needs) (search needs) (search needs) (search needs) (search needs) loop-again (search needs) (search needs)
-    (search needs) (search needs) returns)
+    (tie.spec Inv-loop μ-loop loop-holds (λ c. omega arith) (λ c. omega arith) (λ c. omega arith) (λ c. omega arith) (λ c. omega arith) (λ c κs. simp (length-take, length-drop) (omega arith)) (λ c. omega arith) (λ c. omega arith)
+    loop-again (λ c. omega arith) (λ c. omega arith) (λ c. omega arith) (λ c κs. tt) returns)

@@ -1,5 +1,5 @@
 -- The number of four bytes is the sum of their values at powers of 256, and a byte past the end counts as 0.
-use Rattle.laws.specs.Kit.{_≤_, length, arith, needs}
+use Rattle.laws.specs.Kit.{_≤_, length, arith}
 use lib.ListN.{List·getD-eq-default}
 use denote.Ref.{now}
 use Rattle.laws.specs.Bytes.Laws.{number-1, number-4}
@@ -11,11 +11,7 @@ returns c = let s = now (c .before .before .before .before .before .before .befo
     let h : length s ≤ 3 = omega arith in
     omega (arith, number-4 0 s, number-1 0 s, number-1 1 s, number-1 2 s, List·getD-eq-default s 0 {n = 3} h)
 
-returns-2 : tie.Need-returns-2
-returns-2 c = omega (arith, number-4 0 (now (c .before .before .before .before .before .before .before .before .before .args .s)))
-
 pub first-4-spec : {M : Type 1} → statement M
 first-4-spec =
     tie.close
-    (tie.spec (search needs) (search needs) (search needs) (search needs) (search needs) (search needs) returns (search needs) (search needs)
-    (search needs) (search needs) (search needs) (search needs) (search needs) returns-2)
+    (tie.spec (λ c κs. tt) (λ c κs. tt) (λ c κs. tt) (λ c κs. tt) (λ c κs. tt) (λ c κs. tt) returns (λ c κs. omega arith) (λ c. c .whole-4 .ensures))
