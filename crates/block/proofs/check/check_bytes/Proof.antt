@@ -1,5 +1,5 @@
 -- The check so far and the bytes that are left still give the whole check, and the last one to three are taken singly.
-use Rattle.laws.specs.Kit.{_≡_, ap, _∙_, _≤_, _-_, length, drop, needs}
+use Rattle.laws.specs.Kit.{arith, _≡_, ap, _∙_, _≤_, _-_, length, drop, needs}
 use denote.Ref.{now}
 use Rattle.paper.specs.Check.{checkFrom}
 use Rattle.laws.specs.Slices.{rest-slice}
@@ -24,5 +24,5 @@ returns c = let l = c .before .before .before in
 pub check-bytes-spec : {M : Type 1} → statement M
 check-bytes-spec =
     tie.close
-    (tie.spec Inv-loop μ-loop (search needs) (search needs) (search needs) (search needs) (search needs) loop-again (search needs) (search needs)
-    (search needs) (search needs) returns)
+    (tie.spec Inv-loop μ-loop (search needs) (λ c. omega arith) (search needs) (λ c. omega arith) (λ c. omega arith) loop-again (λ c. omega arith) (λ c. omega arith)
+    (λ c. omega arith) (λ c κs. tt) returns)

@@ -1,5 +1,5 @@
 -- The check so far and the bytes that are left still give the whole check.
-use Rattle.laws.specs.Kit.{_≡_, sym, _∙_, _≤_, _-_, length, drop, needs}
+use Rattle.laws.specs.Kit.{arith, _≡_, sym, _∙_, _≤_, _-_, length, drop, needs}
 use denote.Ref.{now}
 use Rattle.paper.specs.Check.{checkFrom}
 use Rattle.facts.specs.Check.{check-from-more, check-from-end}
@@ -24,4 +24,4 @@ returns c = let l = c .before in
 pub check-from-spec : {M : Type 1} → statement M
 check-from-spec =
     tie.close
-    (tie.spec Inv-loop μ-loop (search needs) (search needs) (search needs) (search needs) (search needs) loop-again returns)
+    (tie.spec Inv-loop μ-loop (search needs) (search needs) (λ c κs. tt) (λ c. omega arith) (λ c. omega arith) loop-again returns)

@@ -20,4 +20,4 @@ unfolding checkOf
 returns-2 c = search needs
 
 pub check-of-spec : {M : Type 1} → statement M
-check-of-spec = tie.close (tie.spec (search needs) returns slice-aggregate-check-bytes (search needs) returns-2)
+check-of-spec = tie.close (tie.spec (λ c κs. tt) returns slice-aggregate-check-bytes (λ c κs. tt) returns-2)

@@ -1,5 +1,5 @@
 -- The check is taken of the block as it came, and written into its last four bytes.
-use Rattle.laws.specs.Kit.{needs}
+use Rattle.laws.specs.Kit.{arith}
 use Rattle.paper.specs.Check.{sealed}
 use Rattle.block.proofs.check.seal.Statement.{statement}
 use Rattle.block.proofs.check.seal.Tie as tie
@@ -9,4 +9,4 @@ unfolding sealed
 returns c = cc
 
 pub seal-spec : {M : Type 1} → statement M
-seal-spec = tie.close (tie.spec (search needs) (search needs) (search needs) returns)
+seal-spec = tie.close (tie.spec (λ c κs. tt) (λ c κs. tt) (λ c. omega arith) returns)

@@ -17,4 +17,4 @@ returns-2 c = omega (arith, number-2 0 (now (c .before .before .before .before .
 pub first-2-spec : {M : Type 1} → statement M
 first-2-spec =
     tie.close
-    (tie.spec (search needs) (search needs) returns (search needs) (search needs) (search needs) returns-2)
+    (tie.spec (λ c κs. tt) (λ c κs. tt) returns (search needs) (search needs) (λ c κs. tt) returns-2)

@@ -1,5 +1,5 @@
 -- A byte past the end is not set, and a list set past its end is the list.
-use Rattle.laws.specs.Kit.{sym, needs}
+use Rattle.laws.specs.Kit.{arith, sym, needs}
 use lib.Seq.{set-out}
 use denote.Ref.{now}
 use Rattle.block.proofs.numbers.put_byte.Statement.{statement}
@@ -9,4 +9,4 @@ returns-2 : tie.Need-returns-2
 returns-2 c = sym (set-out (now (c .before .args .s)) (c .before .args .at) (c .before .args .x) (c .if1 .left))
 
 pub put-byte-spec : {M : Type 1} → statement M
-put-byte-spec = tie.close (tie.spec (search needs) (search needs) (search needs) returns-2)
+put-byte-spec = tie.close (tie.spec (λ c. omega arith) (search needs) (search needs) returns-2)

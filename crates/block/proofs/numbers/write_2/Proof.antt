@@ -1,5 +1,5 @@
 -- What is written at an offset is written at the start of what stands from there on; past the end nothing is.
-use Rattle.laws.specs.Kit.{sym, needs}
+use Rattle.laws.specs.Kit.{arith, sym}
 use denote.Ref.{now}
 use Rattle.laws.specs.Bytes.{little}
 use Rattle.laws.specs.Slices.{written-past, written-slice}
@@ -15,4 +15,4 @@ returns-2 c = let a = c .before .before .args in sym (written-past (a .at) (litt
 pub write-2-spec : {M : Type 1} → statement M
 write-2-spec =
     tie.close
-    (tie.spec (search needs) (search needs) (search needs) (search needs) (search needs) returns returns-2)
+    (tie.spec (λ c. omega arith) (λ c. omega arith) (λ c. omega arith) (λ c κs. tt) (λ c. omega arith) returns returns-2)

@@ -24,12 +24,12 @@ write-first-spec =
     (tie.spec
     Inv-loop
     μ-loop
-    (λ c κs. search needs)
+    (λ c κs. tt)
     (λ c. (omega arith, c .shorter .ensures, refl, refl))
     (search needs)
-    (search needs)
-    (search needs)
-    (search needs)
+    (λ c. omega arith)
+    (λ c. omega arith)
+    (λ c. omega arith)
     loop-again
-    (search needs)
+    (λ c. omega arith)
     (λ c. write-end _ _ _ (omega arith) (c .before .loop .inv .3)))

@@ -1,5 +1,5 @@
 -- The bytes of a number are its remainders by 256, set one after the other.
-use Rattle.laws.specs.Kit.{needs}
+use Rattle.laws.specs.Kit.{arith}
 use Rattle.laws.specs.Bytes.{written, little}
 use Rattle.block.proofs.numbers.write_first_2.Statement.{statement}
 use Rattle.block.proofs.numbers.write_first_2.Tie as tie
@@ -11,4 +11,4 @@ returns c = cc
 pub write-first-2-spec : {M : Type 1} → statement M
 write-first-2-spec =
     tie.close
-    (tie.spec (search needs) (search needs) (search needs) (search needs) (search needs) returns)
+    (tie.spec (λ c. omega arith) (λ c κs. tt) (λ c. omega arith) (λ c κs. tt) (λ c. omega arith) returns)
