@@ -3,7 +3,7 @@ use mathlib.Core.Path.{_≡_}
 use mathlib.Core.Bool.{Bool, true, false, cond}
 use mathlib.Core.List.{List, [], _∷_, _++_}
 use Prim.Native.Nat.{ℕ, zero, suc, _+_, _-_, _*_}
-use lib.ListN.{length, drop, getD}
+use lib.ListN.{length, take, drop, getD}
 use Rattle.laws.specs.Tests.{_and_, is, less, upto}
 use Rattle.laws.specs.Lists.{same}
 use Rattle.laws.specs.Bytes.{part, written, little}
@@ -14,7 +14,7 @@ use Rattle.paper.specs.Listing.{text}
 use Rattle.message_text.specs.declared.Place.{Place}
 use Rattle.message_text.specs.declared.Laid.{Laid}
 use Rattle.message_text.specs.declared.TextRead.{TextRead}
-use Rattle.message_text.specs.Words.{lines, word, value, skipped, numberOf, firstOf, lastOf}
+use Rattle.message_words.specs.Words.{lines, word, value, skipped, numberOf, firstOf, lastOf}
 
 -- a function gives p: its answer is r, and the bytes that were lent to it are x
 abbrev pub Gives : {A : Type 0} → A × Bytes → A → Bytes → Type 0
@@ -86,11 +86,15 @@ inBlock series w v x = cond (is series 0) (inSender w v x) (inSeries w v x)
 abbrev pub laid : Bool → ℕ → Laid
 laid fine series = record { fine = fine; series = series }
 
+-- a message with a block in the place of the 512 bytes from an offset on
+unfoldable pub withBlock : ℕ → Block → Bytes → Bytes
+withBlock o y b = take o b ++ (y ++ drop (o + 512) b)
+
 -- into the last block, with its check put right
 unfoldable pub fieldLaid : ℕ → Bytes → Bytes → Bytes → Laid × Bytes
 fieldLaid series w v b = (
   laid ((inBlock series w v (part (512 * series) 512 b)) .0) series,
-  written (512 * series) (sealed ((inBlock series w v (part (512 * series) 512 b)) .1)) b,
+  withBlock (512 * series) (sealed ((inBlock series w v (part (512 * series) 512 b)) .1)) b,
 )
 
 -- a series begins: kind 2, the sender block's n and version, business type 2, its id
@@ -99,13 +103,13 @@ newSeries n version id = sealed (written 8 (padded 16 id) (padded 512 (2 ∷ n �
 
 -- the sender's block counts it
 unfoldable pub counted : ℕ → Bytes → Bytes
-counted series b = written 0 (sealed (written 4 (little 2 series) (part 0 512 b))) b
+counted series b = withBlock 0 (sealed (written 4 (little 2 series) (part 0 512 b))) b
 
 -- at most 200 series, and room for one more
 unfoldable pub begun : ℕ → Bytes → Bytes → Laid × Bytes
 begun series id b =
     cond (less series 200 and upto (512 * (series + 2)) (length b))
-    (laid (upto (length id) 16) (series + 1), written (512 * (series + 1)) (newSeries (nOf b) (version b) id) (counted (series + 1) b))
+    (laid (upto (length id) 16) (series + 1), withBlock (512 * (series + 1)) (newSeries (nOf b) (version b) id) (counted (series + 1) b))
     (laid false series, b)
 
 unfoldable pub withLine : ℕ → Bytes → Bytes → Laid × Bytes
@@ -117,7 +121,7 @@ withLine series l b =
 
 -- kind 1
 unfoldable pub started : Bytes → Bytes
-started b = written 0 (sealed (padded 512 (1 ∷ []))) b
+started b = withBlock 0 (sealed (padded 512 (1 ∷ []))) b
 
 abbrev pub wrongAt : ℕ → TextRead
 wrongAt line = record { line = line; length = 0 }

@@ -7,13 +7,13 @@ ghost use Rattle.laws.specs.Bytes.{written};
 ghost use Rattle.message_text.specs.MessageText.{Gives, padded, spread, withText, withVersion, withN, withArea, withPositions};
 ghost use Rattle.message_text.specs.MessageText.{senderPlace, seriesPlace, inSender, inSeries, inBlock};
 use super::Place;
-use super::words::first_of;
-use super::words::last_of;
-use super::words::number_of;
 use block::numbers::byte_or_zero;
 use block::numbers::write_2;
 use block::numbers::write_4;
 use field::same;
+use message_words::first_of;
+use message_words::last_of;
+use message_words::number_of;
 use quantity::quantity_read;
 
 // A field of `most` bytes: v, then zero bytes.

@@ -8,7 +8,7 @@ ghost use Rattle.laws.specs.Bytes.{written, little};
 ghost use Rattle.paper.specs.Check.{sealed};
 ghost use Rattle.message_text.specs.MessageText.{Gives, fieldLaid, newSeries, begun, withLine, messageText};
 ghost use Rattle.message_text.specs.MessageText.{inBlock, laid, padded, withLines};
-ghost use Rattle.message_text.specs.Words.{lines};
+ghost use Rattle.message_words.specs.Words.{lines};
 use block::check::seal;
 use block::numbers::write_2;
 use field::same;
@@ -16,14 +16,13 @@ use fill::in_block;
 use fill::put_padded;
 use layout::n_of;
 use layout::version;
-use words::line_at;
-use words::next_line;
-use words::skipped;
-use words::value;
-use words::word;
+use message_words::line_at;
+use message_words::next_line;
+use message_words::skipped;
+use message_words::value;
+use message_words::word;
 
 pub mod fill;
-pub mod words;
 
 // Where a text stands in a block, and how long it is at most: 0 where a word names no text.
 pub struct Place {

@@ -13,7 +13,7 @@ use Rattle.laws.specs.Bytes.Laws.{number-1, written-none, written-cons, written
 use Rattle.paper.specs.Layout.{Bytes, Block}
 use Rattle.paper.specs.QuantityText.{quantityRead}
 use Rattle.paper.specs.declared.QuantityRead.{QuantityRead}
-use Rattle.message_text.specs.Words.{firstOf, lastOf}
+use Rattle.message_words.specs.Words.{firstOf, lastOf}
 use Rattle.message_text.specs.MessageText.{Gives, padded, spread, withPositions}
 
 -- two bytes hold a number's remainder by 65,536

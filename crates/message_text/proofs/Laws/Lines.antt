@@ -1,53 +1,46 @@
 -- A block of the message lent and back, a series begun, and the lines of a text one after the other.
 use mathlib.Core.Path.{_≡_, refl, sym, ap, _∙_}
 use mathlib.Core.Bool.{Bool, true, false}
-use mathlib.Core.List.{List, [], _∷_, _++_, append-assoc}
+use mathlib.Core.List.{List, [], _∷_, _++_}
 use Prim.Native.Nat.{ℕ, _+_, _-_, _*_, _≤_, _<_}
 use native.Mathlib.Nat.{add-sub-cancel-left}
 use native.Mathlib.Omega.{arith}
 use lib.ListN.{length, take, drop}
-use lib.Seq.{drop-drop, length-take-le}
+use lib.Seq.{drop-drop}
 use Rattle.laws.specs.Tests.{_and_, less, upto}
 use Rattle.laws.specs.Tests.Laws.{and-both, and-no-left, and-no-right, less-true, less-false, upto-true, upto-false}
 use Rattle.laws.specs.Bytes.{part, written, little}
-use Rattle.laws.specs.Bytes.Laws.{written-take-drop, written-length}
 use Rattle.laws.specs.Slices.{part-slice}
 use Rattle.paper.specs.Check.{sealed}
 use Rattle.paper.specs.Layout.{Bytes, Block, nOf, version}
 use Rattle.message_text.specs.declared.Laid.{Laid}
 use Rattle.message_text.specs.declared.TextRead.{TextRead}
-use Rattle.message_text.specs.Words.{before, behind, lines}
-use Rattle.message_text.specs.MessageText.{Gives, padded, inBlock, laid, fieldLaid, newSeries, counted, begun, withLine, started, wrongAt, withLines}
-use Rattle.message_text.proofs.Laws.Words.{lines-none, lines-more}
-use Rattle.message_text.proofs.Laws.Fields.{padded-length}
+use Rattle.message_words.specs.Words.{before, behind, lines}
+use Rattle.message_text.specs.MessageText.{Gives, padded, inBlock, laid, fieldLaid, newSeries, counted, withBlock, begun, withLine, started, wrongAt, withLines}
+use Rattle.message_words.specs.Words.Laws.{lines-none, lines-more}
 
 -- ---- a block lent and back
 
-pub block-back : (o : ℕ) (b y : Bytes) → o + 512 ≤ length b → length y ≡ 512 → take o b ++ (y ++ drop (o + 512 - o) (drop o b)) ≡ written o y b
-block-back o b y h e =
-    let d : drop (o + 512 - o) (drop o b) ≡ drop (o + length y) b = rw (add-sub-cancel-left, e) (drop-drop 512 o b) in
-    ap (λ l. take o b ++ (y ++ l)) d ∙ sym (append-assoc (take o b) y (drop (o + length y) b)) ∙ sym (written-take-drop o y b (omega arith))
+pub block-back : (o : ℕ) (b y : Bytes) → take o b ++ (y ++ drop (o + 512 - o) (drop o b)) ≡ withBlock o y b
+unfolding withBlock
+block-back o b y = rw add-sub-cancel-left (rw drop-drop)
 
-front-back : (b y : Bytes) → 512 ≤ length b → length y ≡ 512 → y ++ drop 512 b ≡ written 0 y b
-front-back b y h e =
-    let n : 0 + length y ≡ 512 = omega arith in
-    sym (written-take-drop 0 y b (omega arith) ∙ ap (λ k. y ++ drop k b) n)
+-- the first block
+pub front-back : (b y : Bytes) → y ++ drop 512 b ≡ withBlock 0 y b
+unfolding withBlock
+front-back b y = refl
 
-pub field-back : (series : ℕ) (w v b : Bytes) {fine : Bool} {y : Block} → 512 * (series + 1) ≤ length b → length y ≡ 512
+pub field-back : (series : ℕ) (w v b : Bytes) {fine : Bool} {y : Block}
     → (let x = take (512 * series + 512 - 512 * series) (drop (512 * series) b) in (fine ≡ (inBlock series w v x) .0) × (y ≡ sealed ((inBlock series w v x) .1)))
     → Gives (fieldLaid series w v b) (laid fine series) (take (512 * series) b ++ (y ++ drop (512 * series + 512 - 512 * series) (drop (512 * series) b)))
 unfolding fieldLaid
-field-back series w v b {fine} {y} h e f =
+field-back series w v b {fine} {y} f =
     let g = rw (part-slice (512 * series) (512 * series + 512) 512 b refl) at f in
-    (ap (λ t. laid t series) (g .0), block-back (512 * series) b y (omega arith) e ∙ ap (λ z. written (512 * series) z b) (g .1))
+    (ap (λ t. laid t series) (g .0), block-back (512 * series) b y ∙ ap (λ z. withBlock (512 * series) z b) (g .1))
 
-sealed-length : (x : Block) → length (sealed x) ≡ length x
-unfolding sealed
-sealed-length x = written-length 508 _ x
-
-pub started-back : (b y : Bytes) → 512 ≤ length b → y ≡ sealed (padded 512 (1 ∷ [])) → y ++ drop 512 b ≡ started b
+pub started-back : (b y : Bytes) → y ≡ sealed (padded 512 (1 ∷ [])) → y ++ drop 512 b ≡ started b
 unfolding started
-started-back b y h e = front-back b y h (ap length e ∙ sealed-length (padded 512 (1 ∷ [])) ∙ padded-length 512 (1 ∷ [])) ∙ ap (λ z. written 0 z b) e
+started-back b y e = front-back b y ∙ ap (λ z. withBlock 0 z b) e
 
 -- ---- a series begun
 
@@ -65,15 +58,12 @@ module _ (series : ℕ) (id b : Bytes) where
 
   pub begun-fits : series < 200 → 512 * (series + 1) + 512 ≤ length b → {n v : ℕ} {h y : Block} → n ≡ nOf b → v ≡ version b
       → h ≡ sealed (written 4 (little 2 (series + 1)) (take 512 b))
-      → length y ≡ 512 → y ≡ newSeries n v id
+      → y ≡ newSeries n v id
       → (let c = h ++ drop 512 b in Gives (begun series id b) (laid (upto (length id) 16) (series + 1)) (take (512 * (series + 1)) c ++ (y ++ drop (512 * (series + 1) + 512 - 512 * (series + 1)) (drop (512 * (series + 1)) c))))
   unfolding begun counted part
-  begun-fits s l {h = h} {y = y} en ev qh ey qy =
-      let eh : length h ≡ 512 = ap length qh ∙ sealed-length _ ∙ written-length 4 _ (take 512 b) ∙ length-take-le 512 b (omega arith) in
+  begun-fits s l {h = h} {y = y} en ev qh qy =
       let z : (less series 200 and upto (512 * (series + 2)) (length b)) ≡ true = and-both _ _ (less-true _ _ s) (upto-true _ _ (omega arith)) in
-      let p : h ++ drop 512 b ≡ written 0 h b = front-back b h (omega arith) eh in
-      let k : 512 * (series + 1) + 512 ≤ length (written 0 h b) = rw (written-length 0 h b) l in
-      (rw z, rw (z, p, ← en, ← ev, ← qh, ← qy) (block-back (512 * (series + 1)) (written 0 h b) y k ey))
+      (rw z, rw (z, front-back b h, ← en, ← ev, ← qh, ← qy) (block-back (512 * (series + 1)) (withBlock 0 h b) y))
 
 -- ---- the lines
 

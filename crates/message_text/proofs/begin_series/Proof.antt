@@ -28,7 +28,7 @@ returns-3 c =
     let n = v .before .before in
     let t = n .before .before in
     let s = t .before .before .before .before in
-    (begun-fits (s .args .series) (now (s .args .id)) (now (s .args .buffer)) (omega arith) (t .if2 .left) (n .n-of .ensures) (v .version .ensures) (h .count-series .ensures) (omega arith) (w .write-series .ensures), omega arith)
+    (begun-fits (s .args .series) (now (s .args .id)) (now (s .args .buffer)) (omega arith) (t .if2 .left) (n .n-of .ensures) (v .version .ensures) (h .count-series .ensures) (w .write-series .ensures), omega arith)
 
 pub begin-series-spec : {M : Type 1} → statement M
 begin-series-spec = tie.close (tie.spec returns (search needs) (search needs) (search needs) returns-2 (search needs) (search needs) (search needs) slice-aggregate-count-series (search needs) (search needs) (search needs) (search needs) (search needs) (search needs) (search needs) (search needs) (search needs) returns-3)

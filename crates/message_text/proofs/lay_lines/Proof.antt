@@ -2,7 +2,7 @@
 use Rattle.laws.specs.Kit.{needs, arith, _≡_, refl, true, _≤_, _<_, _+_, _*_, _-_, length, drop, denied, told}
 use lib.ListN.{length-drop}
 use denote.Ref.{now}
-use Rattle.message_text.specs.Words.{lines}
+use Rattle.message_words.specs.Words.{lines}
 use Rattle.message_text.specs.MessageText.{laid, withLines}
 use Rattle.message_text.proofs.Laws.Lines.{lines-on, lines-end, lines-stop}
 use Rattle.message_text.proofs.lay_lines.Statement.{statement}

@@ -31,7 +31,7 @@ returns-2 c =
     let w = l .before .before .before .before in
     let t = w .before .before in
     let b = now (t .before .before .before .args .buffer) in
-    rw (less-false _ _ (t .if1 .left), ← started-back b _ (t .if1 .left) (w .write-start .ensures)) (l .lay-lines .ensures)
+    rw (less-false _ _ (t .if1 .left), ← started-back b _ (w .write-start .ensures)) (l .lay-lines .ensures)
 
 pub message-from-text-spec : {M : Type 1} → statement M
 message-from-text-spec = tie.close (tie.spec returns (search needs) slice-aggregate-write-start write-start-requires (search needs) (search needs) returns-2)

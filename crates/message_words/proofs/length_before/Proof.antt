@@ -1,0 +1,28 @@
+-- The bytes passed are none of them x, so that what stands before x is as long as these and what is before x in the rest.
+use Rattle.laws.specs.Kit.{needs, arith, _≡_, _≤_, _-_, _+_, length, drop, step-byte, end-list}
+use Rattle.laws.specs.Tests.Laws.{is-equal, is-other}
+use Rattle.laws.specs.Loops.{until-rest-start, until-rest-go, until-rest-hit, until-rest-end}
+use Rattle.message_words.specs.Words.{before}
+use Rattle.message_words.proofs.length_before.Statement.{statement}
+use Rattle.message_words.proofs.length_before.Tie as tie
+
+abbrev Inv-loop : tie.InvT-loop
+Inv-loop s x i₀ i = (i ≤ length s) × (length (before x s) ≡ i + length (before x (drop i s)))
+
+abbrev μ-loop : tie.MeasureT-loop
+μ-loop s x i₀ i = length s - i
+
+pub length-before-spec : {M : Type 1} → statement M
+unfolding before
+length-before-spec =
+    tie.close
+    (tie.spec
+    Inv-loop
+    μ-loop
+    (λ c. (omega arith, until-rest-start _ _))
+    (search needs)
+    (λ c. let turn = c .before .before in (until-rest-hit _ (turn .before .loop .inv .1) (step-byte _ _ (turn .loop-test .taken)) (is-equal _ _ (c .if1 .taken)), omega arith))
+    (search needs)
+    (search needs)
+    (λ c. let turn = c .before .before in (omega arith, until-rest-go _ (turn .before .loop .inv .1) (step-byte _ _ (turn .loop-test .taken)) (is-other _ _ (c .if1 .left))))
+    (λ c. (until-rest-end _ (c .before .loop .inv .1) (end-list _ _ (c .loop-test .left)), omega arith)))
