@@ -5,7 +5,8 @@ use native.Mathlib.Omega.{arith}
 use lib.ListN.{length, length-append, length-map}
 use Rattle.laws.specs.Tests.Laws.{split}
 use Rattle.laws.specs.Lists.{has, keep, count, until}
-use Rattle.laws.specs.Lists.Laws.{has-no-place, count-keep, count-length}
+use Rattle.laws.specs.Lists.Search.{has-no-place}
+use Rattle.laws.specs.Lists.Count.{count-keep, count-length}
 use Rattle.paper.specs.Layout.{Block, sender, withSendersSlot}
 use Rattle.paper.specs.Book.{isFree, numbered, isSenderBlockOf, slotOf, ownSender, ownSeries}
 use Rattle.paper.specs.Rules.{isNew, newBlocks}

@@ -12,7 +12,7 @@ use Rattle.laws.specs.Tests.Laws.{and-left, and-right, and-both, is-yes, is-equ
 use Rattle.laws.specs.Lists.{every, All}
 use Rattle.laws.specs.Lists.Each.{all-append, every-all, all-every}
 use Rattle.laws.specs.Bytes.{part, written, value, little, number}
-use Rattle.laws.specs.Bytes.Laws.{part-length, part-none, part-part, part-add, all-part, written-length, part-written-before, part-written-after, part-written-same, little-length, value-little, number-part}
+use Rattle.laws.specs.Bytes.Laws.{part-none, part-part, part-add, all-part, written-length, part-written-before, part-written-after, part-written-same, little-length, value-little, number-part}
 use Rattle.paper.specs.Layout.{Bytes, Block, zeros, kind, nOf, lead, clockPlus10080, dayOfBook, area, receiver, dayZeros, version, idOf, seriesCount, sender, dayOfMessage, nets, senderZeros, businessType, contractType, sendersSlot, inArea, outArea, inParty, outParty, pair, agreement, mark, state, first, partner, quantities, entry, quantity, aboveN, senderZerosInMessage, withClock, withSendersSlot, withMark, withNets, net}
 use Rattle.facts.specs.Check.{sealed-length, part-sealed}
 

@@ -1,8 +1,8 @@
 -- The verdict past rules 1 and 2, by the sender's stored block and its series among the used slots.
-use mathlib.Core.Path.{_≡_, refl, sym, ap, ap₂, _∙_}
-use mathlib.Core.Bool.{Bool, false, cond}
-use mathlib.Core.List.{List, [], _∷_}
-use Prim.Native.Nat.{ℕ, zero, suc, _+_, _/_, _≤_}
+use mathlib.Core.Path.{_≡_, sym, ap, ap₂, _∙_}
+use mathlib.Core.Bool.{cond}
+use mathlib.Core.List.{List, []}
+use Prim.Native.Nat.{ℕ, _+_, _/_, _≤_}
 use native.Mathlib.Omega.{arith}
 use lib.ListN.{length, take, getD}
 use Rattle.laws.specs.Tests.{_and_, neg, is, less, below}
@@ -10,10 +10,9 @@ use Rattle.laws.specs.Lists.{keep, count}
 use Rattle.paper.specs.declared.Verdict.{Verdict}
 use Rattle.laws.specs.Cut.{cut}
 use Rattle.laws.specs.Cut.Laws.{cut-length}
-use Rattle.paper.specs.Layout.{Bytes, Block, idOf, sender}
-use Rattle.paper.specs.Ids.{idWellFormed}
-use Rattle.paper.specs.Book.{isSender, numbered, isSenderBlockOf, slotOf, isSeriesOf, ownSender, ownSeries}
-use Rattle.paper.specs.Rules.{_then_, broken, rule3, rule4, rule5, versionBroken, rule6, isNew, newBlocks, rule16, rule17, eachSeries, judge}
+use Rattle.paper.specs.Layout.{Bytes, Block, sender}
+use Rattle.paper.specs.Book.{isSender, numbered, slotOf, isSeriesOf, ownSender, ownSeries}
+use Rattle.paper.specs.Rules.{_then_, broken, headVerdict, lastVerdict, eachSeries, judge}
 use Rattle.index.specs.declared.By.the-variants.{Pair}
 use Rattle.index.specs.Linked.{Found}
 use Rattle.judge.specs.Looked.{Taken, FoundIf}

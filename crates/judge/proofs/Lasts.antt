@@ -16,8 +16,8 @@ use Rattle.laws.specs.Lists.Count.{count-map, count-agree}
 use Rattle.laws.specs.Cut.{cut}
 use Rattle.laws.specs.Cut.Laws.{cut-length}
 use Rattle.paper.specs.Layout.{Bytes, Block, pair}
-use Rattle.paper.specs.Book.{isSender, isSeriesOf, numbered}
-use Rattle.paper.specs.Rules.{pairIs, absent, rule16, isNew, storedOf, newBlocks, rule17}
+use Rattle.paper.specs.Book.{isSender, isSeriesOf, numbered, pairIs}
+use Rattle.paper.specs.Rules.{absent, rule16, isNew, storedOf, newBlocks, rule17}
 use Rattle.index.specs.declared.By.the-variants.{Pair}
 use Rattle.index.specs.Linked.{keyOf, ownWith, Found}
 use Rattle.judge.specs.Looked.{Taken}
@@ -99,8 +99,8 @@ module _ (slot : ℕ) (us series : List Block) (numbers : List ℕ) (k : All (λ
       ∙ sym (has-keep-and (λ x. neg (has (pairIs (pair x)) series)) (isSeriesOf slot) us)
 
 pub rule-17-found : (free slot : ℕ) (us series : List Block) (x : Block) (places : List ℕ) (m : ℕ) → m ≡ length series → length series ≤ 1000 → Found slot Pair us series places
-    → less free (cond (isSender x) 0 1 + count (λ n. is n 0) (take m places)) ≡ rule17 free (x ∷ []) (keep (isSeriesOf slot) us) series
-unfolding rule17 newBlocks numbered
+    → less free (cond (isSender x) 0 1 + count (λ n. is n 0) (take m places)) ≡ rule17 x (keep (isSeriesOf slot) us) free series
+unfolding rule17 newBlocks
 rule-17-found free slot us series x places m e h a = ap (λ n. less free (cond (isSender x) 0 1 + n)) (new-counted slot us series places m e h a)
 
 -- ---- how many there can be

@@ -1,7 +1,7 @@
 -- Rule 7's clauses on other series, by places: the first series of the message with an id or a pair is an earlier one; the sender's stored
 -- series with the id is not the one with the pair.
 use mathlib.Core.Path.{_≡_, refl, sym, ap, ap₂, _∙_}
-use mathlib.Core.Bool.{Bool, true, false, cond}
+use mathlib.Core.Bool.{Bool, true, false}
 use mathlib.Core.List.{List, [], _∷_}
 use Prim.Native.Nat.{ℕ, zero, suc, _+_, _<_}
 use native.Mathlib.Numerals.{add-one}

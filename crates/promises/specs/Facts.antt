@@ -17,12 +17,12 @@ use Rattle.laws.specs.Cut.Laws.{cut-length, cut-widths}
 use Rattle.laws.specs.Order.Laws.{first-left, first-right, along-all}
 use Rattle.paper.specs.declared.Verdict.{Verdict}
 use Rattle.paper.specs.Check.{checkRight}
-use Rattle.paper.specs.Layout.{Bytes, Block, blocks, zeros, nOf, clockPlus10080, dayOfBook, area, receiver, version, idOf, seriesCount, sender, dayOfMessage, businessType, contractType, inArea, outArea, inParty, outParty, pair, agreement, quantity, senderZerosInMessage, withClock}
-use Rattle.paper.specs.Ranges.{wholeBlocks, nAllowed, clockAllowed, versionAllowed}
+use Rattle.paper.specs.Layout.{Bytes, Block, zeros, nOf, clockPlus10080, dayOfBook, area, receiver, version, idOf, seriesCount, sender, dayOfMessage, businessType, contractType, inArea, outArea, inParty, outParty, pair, agreement, quantity, senderZerosInMessage, withClock}
+use Rattle.paper.specs.Ranges.{wholeBlocks, clockAllowed, versionAllowed}
 use Rattle.paper.specs.Ids.{idWellFormed}
 use Rattle.paper.specs.Eic.{eicValid}
-use Rattle.paper.specs.Book.{dayBlock, slots, isFree, used, freeSlots, isSender, isSeries, ownSender, ownSeries, idIs, pairIs}
-use Rattle.paper.specs.Sound.{dayFields, daySound, usedFirst, senderSound, partiesOf, seriesSound, usedSound, sameSender, sameSeries, sound}
+use Rattle.paper.specs.Book.{dayBlock, used, freeSlots, isSender, isSeries, ownSender, ownSeries, idIs, pairIs}
+use Rattle.paper.specs.Sound.{daySound, partiesOf, sound}
 use Rattle.paper.specs.Message.{headOf, seriesOf, headRight, seriesRight, messageRight, rule2}
 use Rattle.paper.specs.Rules.{fine, numberOf, _then_, broken, overPositions, rule1, rule3, rule4, rule5, idOrVersionBroken, rule6, withOtherPair, withOtherId, rule7, rule8, rule9, rule10, rule12, rule13, closed, rule14, seriesVersion, rule15, absent, rule16, newBlocks, rule17, storedOf, quantityVerdict, closedVerdict, formVerdict, valuesVerdict, seriesVerdict, eachSeries, headVerdict, lastVerdict, judge, verdict}
 use Rattle.paper.specs.Opening.{Opening, dayBlockOf, openingAllowed, openNumber, opened}

@@ -10,7 +10,9 @@ use lib.Seq.{drop-drop}
 use Rattle.laws.specs.Tests.{_or_}
 use Rattle.laws.specs.Tests.Laws.{split, clash, or-yes-left, or-yes-right, or-else}
 use Rattle.laws.specs.Lists.{has, keep, All}
-use Rattle.laws.specs.Lists.Laws.{all-imply, all-drop, count-keep, has-no-place, all-map}
+use Rattle.laws.specs.Lists.Each.{all-imply, all-drop, all-map}
+use Rattle.laws.specs.Lists.Search.{has-no-place}
+use Rattle.laws.specs.Lists.Count.{count-keep}
 use Rattle.laws.specs.Cut.{join}
 use Rattle.laws.specs.Cut.Laws.{join-length}
 use Rattle.paper.specs.Layout.{Bytes, Block, blocks, nOf, sender, withSendersSlot}

@@ -9,7 +9,7 @@ use lib.ListN.{length, take, drop, getD, List·getD-eq-default, drop-of-length-l
 use Rattle.laws.specs.Tests.{_and_, is}
 use Rattle.laws.specs.Tests.Laws.{split, is-yes}
 use Rattle.laws.specs.Lists.{every, until}
-use Rattle.laws.specs.Lists.Laws.{until-take, until-length}
+use Rattle.laws.specs.Lists.Keep.{until-take, until-length}
 use Rattle.laws.specs.Bytes.Laws.{number-1}
 use Rattle.laws.specs.Slices.{rest-slice}
 use Rattle.laws.specs.Cut.{cut, block}

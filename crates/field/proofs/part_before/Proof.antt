@@ -1,6 +1,6 @@
 -- What stands before the first x is the front of the bytes, as long as was counted.
 use Rattle.laws.specs.Kit.{_∙_, needs}
-use Rattle.laws.specs.Lists.Laws.{until-take}
+use Rattle.laws.specs.Lists.Keep.{until-take}
 use Rattle.laws.specs.Bytes.{part}
 use Rattle.field.proofs.part_before.Statement.{statement}
 use Rattle.field.proofs.part_before.Tie as tie
