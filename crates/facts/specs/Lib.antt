@@ -1,7 +1,16 @@
--- Laws of the paper's definitions, a file for each of its files.
+-- Laws of the paper's definitions, which code and theorems cite.
 pub mod Check
 pub mod Layout
 pub mod Book
-pub mod Sound
 pub mod Eic
 pub mod QuantityText
+-- the only door from a test to what it gives: a sound book, a message let through, a clock move, an opening
+pub mod Sound
+pub mod Verdict
+pub mod Calls
+-- what an acceptance does to each block
+pub mod Pairs
+pub mod Renewal
+pub mod Remarking
+pub mod Senders
+pub mod Stored

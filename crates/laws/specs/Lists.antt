@@ -1,15 +1,15 @@
 -- Lists searched, sieved and compared by tests.
+use mathlib.Core.Bool.{Bool, true, false, cond}
+use mathlib.Core.Option.{Option, none, some}
+use mathlib.Core.List.{List, [], _∷_}
+use Prim.Native.Nat.{ℕ, zero, suc, _+_}
+use Rattle.laws.specs.Tests.{_and_, _or_, neg, is}
 pub mod Same
 pub mod Each
 pub mod Search
 pub mod Apart
 pub mod Count
 pub mod Keep
-use mathlib.Core.Bool.{Bool, true, false, cond}
-use mathlib.Core.Option.{Option, none, some}
-use mathlib.Core.List.{List, [], _∷_}
-use Prim.Native.Nat.{ℕ, zero, suc, _+_}
-use Rattle.laws.specs.Tests.{_and_, _or_, neg, is}
 
 -- two lists of numbers are the same
 unfoldable pub same : List ℕ → List ℕ → Bool
@@ -75,6 +75,11 @@ module _ {A : Type 0} where
   unfoldable pub total : (A → ℕ) → List A → ℕ
   total g [] = 0
   total g (x ∷ xs) = g x + total g xs
+
+  -- what g gives of an element that was found
+  unfoldable pub ofFound : (A → ℕ) → Option A → ℕ
+  ofFound g none = 0
+  ofFound g (some x) = g x
 
   -- a property of each
   abbrev pub All : (A → Type 0) → List A → Type 0

@@ -25,10 +25,13 @@ use Rattle.paper.specs.Clock.{clockAnswer, clockMoved}
 use Rattle.paper.specs.Calls.{Call, Desk, step, run, opening, clockMove, submission, reading}
 use Rattle.facts.specs.Layout.{clock-with-clock, n-with-clock, lead-with-clock, entry-quantities, quantity-nothing, entry-nothing}
 use Rattle.promises.specs.Histories.{NotOpened, Unopened, finalGiven}
-use Rattle.promises.specs.Facts.{Sound, sound-says, is-sound, day-n, day-block-length, Line, Accepts, accepts, Moves, moves}
-use Rattle.promises.specs.Pairs.{pair-is-yes, of-pair-own, of-pair-other, viewFound, viewHeld}
+use Rattle.facts.specs.Sound.{Sound, sound-says, is-sound, day-n, day-block-length}
+use Rattle.facts.specs.Verdict.{Line, Accepts, accepts}
+use Rattle.facts.specs.Calls.{Moves, moves}
+use Rattle.facts.specs.Pairs.{pair-is-yes, of-pair-own, of-pair-other, viewFound, viewHeld}
 use Rattle.promises.specs.Parts.{Acceptance, parts}
-use Rattle.promises.specs.Stored.{present-pair, held-accepted}
+use Rattle.promises.specs.Stored.{held-accepted}
+use Rattle.facts.specs.Stored.{present-pair}
 use Rattle.promises.specs.ReadBack.{used-accepted, day-block-accepted}
 use Rattle.promises.specs.Refusals.{opening-refused, clock-refused, submission-refused, submission-accepted}
 use Rattle.promises.specs.Soundness.{day-block-moved, used-moved}

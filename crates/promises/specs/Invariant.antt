@@ -19,16 +19,19 @@ use Rattle.paper.specs.Clock.{clockAnswer, clockMoved}
 use Rattle.paper.specs.PlainRule.{orElse, latest, seriesOfLatest, plainHeld, plainNets}
 use Rattle.paper.specs.Calls.{Call, Desk, step, run, opening, clockMove, submission, reading}
 use Rattle.facts.specs.Layout.{n-with-clock, content, headContent}
+use Rattle.facts.specs.Book.{used-lengths}
+use Rattle.facts.specs.Sound.{Sound}
+use Rattle.facts.specs.Verdict.{Accepts, accepts}
+use Rattle.facts.specs.Calls.{Moves, moves, Opens, opens}
+use Rattle.facts.specs.Pairs.{viewFound, viewHeld, held-viewed}
+use Rattle.facts.specs.Renewal.{shape}
 use Rattle.promises.specs.Histories.{plainContent, plainHeadContent}
-use Rattle.promises.specs.Facts.{Sound, Accepts, accepts, Moves, moves, Opens, opens}
-use Rattle.promises.specs.Pairs.{viewFound, viewHeld, held-viewed}
-use Rattle.promises.specs.Renewal.{shape}
 use Rattle.promises.specs.Marks.{MarksTrue, marks-kept}
-use Rattle.promises.specs.Stored.{held-accepted, content-accepted}
+use Rattle.promises.specs.NetsTrue.{NetsTrue, nets-kept, nets-after, head-content-after}
 use Rattle.promises.specs.ReadBack.{used-accepted, day-block-accepted}
 use Rattle.promises.specs.Refusals.{opening-refused, clock-refused, submission-refused, submission-accepted}
 use Rattle.promises.specs.Soundness.{sound-accepted, day-block-moved, used-moved, sound-moved, used-opened, sound-opened}
-use Rattle.promises.specs.NetsTrue.{NetsTrue, nets-kept, nets-after, head-content-after}
+use Rattle.promises.specs.Stored.{held-accepted, content-accepted}
 
 -- ---- the messages, one longer
 
@@ -92,7 +95,7 @@ invariant-accepted book ms m a v = record {
   heads = λ e.
       ap (λ us. Option·map headContent (find (isSenderBlockOf e) us)) (used-accepted book m a) ∙ head-content-after book m a e
       ∙ ap (cond (same (sender (headOf m)) e) (some (headContent (headOf m)))) (v .heads e) ∙ sym (plain-head-more ms m e);
-  marks = rw (day-block-accepted book m a, used-accepted book m a) (marks-kept (used book) (headOf m) (seriesOf m) (shape book m a) (nOf (dayBlock book))
+  marks = rw (day-block-accepted book m a, used-accepted book m a) (marks-kept (used book) (headOf m) (seriesOf m) (shape book m a) (nOf (dayBlock book)) (used-lengths book)
       (v .marks));
   kept-nets = rw (used-accepted book m a) (nets-kept book m a (v .kept-nets));
   plain = λ e.

@@ -1,13 +1,7 @@
 -- Theorems on the definitions of `paper`: no function, no assumption. Promises is the page to read; every other file carries one reason for it.
--- words, and the doors from the tests to facts
-pub mod Laws
+-- words of the statements
 pub mod Histories
-pub mod Facts
 -- what an acceptance does to each block
-pub mod Pairs
-pub mod Remarking
-pub mod Renewal
-pub mod Senders
 pub mod Parts
 pub mod Stored
 pub mod Marks

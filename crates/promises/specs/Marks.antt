@@ -9,17 +9,16 @@ use lib.ListN.{length}
 use Rattle.laws.specs.Tests.Laws.{split, clash, and-both, and-no, or-right, or-yes-left, is-equal}
 use Rattle.laws.specs.Lists.{find, place, has, All}
 use Rattle.laws.specs.Lists.Each.{all-imply, all-both, all-find, all-map}
-use Rattle.laws.specs.Lists.Search.{has-no-all, all-has-no, has-append-left, has-append-right, find-passes, find-append-only, place-append-only, find-map}
+use Rattle.laws.specs.Lists.Search.{has-no-all, all-has-no, has-append-left, has-append-right, find-passes, find-append-only, place-append-only, find-map, place-map-each, has-map-each}
 use Rattle.paper.specs.Layout.{Bytes, Block, sender, sendersSlot, pair, mark, withSendersSlot}
 use Rattle.paper.specs.Book.{isSeries, isSeriesOf, isSeriesOfPair}
 use Rattle.paper.specs.Marks.{isCounterpart, counterpart, counterpartSlot, markIn}
 use Rattle.paper.specs.Acceptance.{slotFor, senderKept, renewed, fresh, placed, touched, remarked, usedAfter}
 use Rattle.facts.specs.Layout.{with-senders-slot-length, mark-with-mark}
 use Rattle.facts.specs.Book.{series-of-slot}
-use Rattle.promises.specs.Laws.{place-map-each, has-map-each}
-use Rattle.promises.specs.Pairs.{of-pair-yes, counterpart-series, counterpart-pair, of-pair-kept, counterpart-kept}
-use Rattle.promises.specs.Remarking.{mark-in-length, remarked-touched, remarked-untouched, series-remarked, mark-in-remarked-list, mark-in-remarked}
-use Rattle.promises.specs.Renewal.{Shape, sender-kept-no-series, series-renewed, renewed-keeps, renewed-length, renewed-others-series, adopted, by-origin, fresh-slots}
+use Rattle.facts.specs.Pairs.{of-pair-yes, counterpart-series, counterpart-pair, of-pair-kept, counterpart-kept}
+use Rattle.facts.specs.Remarking.{mark-in-length, remarked-touched, remarked-untouched, series-remarked, mark-in-remarked-list, mark-in-remarked}
+use Rattle.facts.specs.Renewal.{Shape, sender-kept-no-series, series-renewed, renewed-keeps, renewed-length, renewed-others-series, adopted, by-origin, fresh-slots}
 
 unfoldable pub MarksTrue : ℕ → List Block → Type 0
 MarksTrue n l = All (λ x. isSeries x ≡ true → mark x ≡ markIn n l x) l
@@ -99,12 +98,12 @@ module _ (us : List Block) (h : Block) (series : List Block) (c : Shape us h ser
       let e : has (isSeriesOfPair slot (pair y)) now ≡ false = untouched-no-pair slot now y s u in
       rw (find-counterpart-other (pair y) e (sendersSlot y), place-counterpart-other (pair y) e (sendersSlot y))
 
-  pub marks-kept : (n : ℕ) → MarksTrue n us → MarksTrue n (usedAfter n us h series)
+  pub marks-kept : (n : ℕ) → All (λ x. length x ≡ 512) us → MarksTrue n us → MarksTrue n (usedAfter n us h series)
   unfolding MarksTrue usedAfter
-  marks-kept n t =
+  marks-kept n l t =
       all-map (λ x. isSeries x ≡ true → mark x ≡ markIn n (map put now) x) put now
       (by-origin us h series c P (λ x. (length x ≡ 512) × (isSeries x ≡ true → mark x ≡ markIn n us x)) (λ y. length y ≡ 512)
-      (all-both (λ x. length x ≡ 512) (λ x. isSeries x ≡ true → mark x ≡ markIn n us x) us (c .lengths) t) (c .series-whole)
+      (all-both (λ x. length x ≡ 512) (λ x. isSeries x ≡ true → mark x ≡ markIn n us x) us l t) (c .series-whole)
       old (λ s. clash (sym (series-remarked n slot now (senderKept h series)) ∙ s) (sender-kept-no-series us h series c)) young)
     where
       put : Block → Block

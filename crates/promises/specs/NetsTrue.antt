@@ -9,7 +9,7 @@ use Rattle.laws.specs.Tests.{is}
 use Rattle.laws.specs.Tests.Laws.{split}
 use Rattle.laws.specs.Lists.{same, find, has, keep, All}
 use Rattle.laws.specs.Lists.Same.{same-yes, same-no}
-use Rattle.laws.specs.Lists.Search.{has-yes, find-passes, find-append-first, find-append-second, find-append-only, find-map}
+use Rattle.laws.specs.Lists.Search.{has-yes, find-passes, find-append-first, find-append-second, find-append-only, find-map, has-map-each}
 use Rattle.paper.specs.Layout.{Bytes, Block, nOf, sender, nets, inParty, outParty, quantity, withSendersSlot}
 use Rattle.paper.specs.Book.{dayBlock, used, isSender, isSeries, isSenderBlockOf, slotOf, isSeriesOf, ownSeries}
 use Rattle.paper.specs.Message.{headOf, seriesOf}
@@ -17,11 +17,10 @@ use Rattle.paper.specs.Nets.{bought, sold, netsOf}
 use Rattle.paper.specs.Acceptance.{senderKept, fresh, placed, usedAfter}
 use Rattle.facts.specs.Layout.{nets-with-nets, Alike, alike-senders-slot, headContent, head-content-with-nets, alike-in-party, alike-out-party, alike-quantity}
 use Rattle.facts.specs.Book.{sender-not-series, sender-block-sender, sender-block-eic, sender-block-yes, series-of-other}
-use Rattle.promises.specs.Laws.{has-map-each}
-use Rattle.promises.specs.Facts.{Accepts}
-use Rattle.promises.specs.Remarking.{remarked-no-series, alike-remarked, sender-block-remarked}
-use Rattle.promises.specs.Renewal.{Shape, shape, sender-kept-sender, sender-kept-is-sender, renewed-sender, renewed-other, sender-block-renewed}
-use Rattle.promises.specs.Senders.{slots-differ, fresh-new, fresh-no-sender-block, slot-after-own, slot-after-other}
+use Rattle.facts.specs.Verdict.{Accepts}
+use Rattle.facts.specs.Remarking.{remarked-no-series, alike-remarked, sender-block-remarked}
+use Rattle.facts.specs.Renewal.{Shape, shape, sender-kept-sender, sender-kept-is-sender, renewed-sender, renewed-other, sender-block-renewed}
+use Rattle.facts.specs.Senders.{slots-differ, fresh-new, fresh-no-sender-block, slot-after-own, slot-after-other}
 use Rattle.promises.specs.Parts.{afterOf, Acceptance, parts}
 use Rattle.promises.specs.Sums.{total-own, total-other}
 use Rattle.promises.specs.Nets.{nets-of-length, nets-agree}

@@ -11,7 +11,7 @@ use Rattle.laws.specs.Tests.{_and_, is}
 use Rattle.laws.specs.Tests.Laws.{split, clash, and-left, and-right, and-both, and-no, or-else, neg-true}
 use Rattle.laws.specs.Lists.{nth, has}
 use Rattle.laws.specs.Lists.Each.{all-nth, nth-append-left, nth-map}
-use Rattle.laws.specs.Lists.Search.{has-yes, find-passes, find-has-other}
+use Rattle.laws.specs.Lists.Search.{has-yes, find-passes, find-has-other, has-map-each}
 use Rattle.laws.specs.Cut.{join}
 use Rattle.paper.specs.Layout.{Bytes, Block, nOf, sender, sendersSlot, pair}
 use Rattle.paper.specs.Book.{dayBlock, used, isSeries, isSenderBlockOf, slotOf, isSeriesOf, isSeriesOfPair}
@@ -20,13 +20,12 @@ use Rattle.paper.specs.Marks.{isCounterpart, markIn}
 use Rattle.paper.specs.Acceptance.{fresh, placed, touched, remarked, usedAfter, accepted}
 use Rattle.facts.specs.Layout.{ButMark, but-mark-refl, but-mark-with-mark}
 use Rattle.facts.specs.Book.{series-of-yes}
-use Rattle.promises.specs.Laws.{has-map-each}
 use Rattle.promises.specs.Histories.{isCounterpartOf}
-use Rattle.promises.specs.Facts.{Accepts}
-use Rattle.promises.specs.Pairs.{pair-is-equal, of-pair-series, of-pair-slot, of-pair-pair, of-pair-kept}
-use Rattle.promises.specs.Remarking.{mark-in-length, remarked-touched, remarked-untouched, remarked-keeps}
-use Rattle.promises.specs.Renewal.{Shape, shape, renewed-other}
-use Rattle.promises.specs.Senders.{owned, own-by-slot-for, slot-after-own}
+use Rattle.facts.specs.Verdict.{Accepts}
+use Rattle.facts.specs.Pairs.{pair-is-equal, of-pair-series, of-pair-slot, of-pair-pair, of-pair-kept}
+use Rattle.facts.specs.Remarking.{mark-in-length, remarked-touched, remarked-untouched, remarked-keeps}
+use Rattle.facts.specs.Renewal.{Shape, shape, renewed-other}
+use Rattle.facts.specs.Senders.{owned, own-by-slot-for, slot-after-own}
 use Rattle.promises.specs.Parts.{Acceptance, parts}
 use Rattle.promises.specs.ReadBack.{used-accepted, accepted-front}
 

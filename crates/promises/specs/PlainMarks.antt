@@ -22,10 +22,10 @@ use Rattle.paper.specs.Finals.{held}
 use Rattle.paper.specs.PlainRun.{markTrue, netsTrue, plainRun}
 use Rattle.paper.specs.PlainRule.{plainHeld, otherParty, plainMark}
 use Rattle.facts.specs.Layout.{mark-partner}
-use Rattle.promises.specs.Facts.{is-sound, used-few}
-use Rattle.promises.specs.Pairs.{pair-is-equal, of-pair-yes, of-pair-series, of-pair-slot, of-pair-pair, viewFound, viewHeld, held-viewed}
+use Rattle.facts.specs.Sound.{is-sound, used-few}
+use Rattle.facts.specs.Pairs.{pair-is-equal, of-pair-yes, of-pair-series, of-pair-slot, of-pair-pair, viewFound, viewHeld, held-viewed}
 use Rattle.promises.specs.Marks.{MarksTrue}
-use Rattle.promises.specs.Senders.{slot-of-one, Owner, Owned, owned}
+use Rattle.facts.specs.Senders.{slot-of-one, Owner, Owned, owned}
 use Rattle.promises.specs.SoundApart.{same-series-yes, same-pair-yes}
 use Rattle.promises.specs.SoundSeries.{partner-in}
 use Rattle.promises.specs.NetsTrue.{NetsTrue}

@@ -21,7 +21,7 @@ use Rattle.paper.specs.PlainRule.{plainHeld, otherParty, plainMark, plainNets}
 use Rattle.paper.specs.Calls.{Call, Desk, run}
 use Rattle.facts.specs.Layout.{content, headContent, ButMark}
 use Rattle.promises.specs.Histories.{begun, reached, Unopened, finalGiven, plainContent, plainHeadContent, isCounterpartOf, Determines}
-use Rattle.promises.specs.Facts.{accepts}
+use Rattle.facts.specs.Verdict.{accepts}
 use Rattle.promises.specs.ReadBack.{day-block-accepted}
 use Rattle.promises.specs.Refusals.{opening-refused, clock-refused, submission-refused}
 use Rattle.promises.specs.Soundness.{opened-sound, moved-sound, submitted-sound}

@@ -2,48 +2,28 @@
 -- them all slots stay free.
 use mathlib.Core.Path.{_≡_, ap, _∙_}
 use mathlib.Core.Bool.{true, false}
-use mathlib.Core.List.{List, _++_, map, append-assoc}
+use mathlib.Core.List.{List, _++_, append-assoc}
 use Prim.Native.Nat.{ℕ, _+_, _-_, _*_, _/_, _≤_, _<_}
 use native.Mathlib.Omega.{arith}
 use lib.ListN.{length, drop, length-append, length-map, length-drop}
 use lib.Seq.{drop-drop}
 use Rattle.laws.specs.Tests.{_or_}
 use Rattle.laws.specs.Tests.Laws.{split, clash, or-yes-left, or-yes-right, or-else}
-use Rattle.laws.specs.Lists.{has, keep, All}
+use Rattle.laws.specs.Lists.{All}
 use Rattle.laws.specs.Lists.Each.{all-imply, all-drop, all-map}
-use Rattle.laws.specs.Lists.Search.{has-no-place}
-use Rattle.laws.specs.Lists.Count.{count-keep}
 use Rattle.laws.specs.Cut.{join}
 use Rattle.laws.specs.Cut.Laws.{join-length}
-use Rattle.paper.specs.Layout.{Bytes, Block, blocks, nOf, sender, withSendersSlot}
-use Rattle.paper.specs.Book.{dayBlock, slots, isFree, used, freeSlots, isSender, isSeries, numbered, isSenderBlockOf, ownSender, ownSeries, slotOf}
+use Rattle.paper.specs.Layout.{Bytes, Block, blocks, nOf, sender}
+use Rattle.paper.specs.Book.{dayBlock, slots, isFree, used, isSender, isSeries, isSenderBlockOf}
 use Rattle.paper.specs.Sound.{usedSound}
 use Rattle.paper.specs.Message.{headOf, seriesOf}
-use Rattle.paper.specs.Rules.{isNew, newBlocks}
-use Rattle.paper.specs.Acceptance.{slotFor, renewed, fresh, placed, remarked, usedAfter, accepted}
-use Rattle.facts.specs.Book.{no-block-sender, kind-used, series-of-other, day-block-append, slots-length, slots-joined, used-joined, slots-rest}
-use Rattle.promises.specs.Laws.{until-count}
-use Rattle.promises.specs.Facts.{Sound, day-block-length, used-kind, Accepts}
-use Rattle.promises.specs.Remarking.{remarked-no-series, series-remarked, remarked-length}
-use Rattle.promises.specs.Renewal.{Shape, shape, series-with-senders-slot, sender-kept-is-sender, sender-kept-no-series, renewed-sender, renewed-other, series-renewed, by-origin, placed-lengths}
+use Rattle.paper.specs.Acceptance.{slotFor, renewed, placed, remarked, usedAfter, accepted}
+use Rattle.facts.specs.Book.{kind-used, series-of-other, day-block-append, slots-length, slots-joined, used-joined, slots-rest, used-lengths}
+use Rattle.facts.specs.Sound.{Sound, day-block-length, used-kind}
+use Rattle.facts.specs.Verdict.{Accepts}
+use Rattle.facts.specs.Renewal.{Shape, shape, series-with-senders-slot, sender-kept-is-sender, sender-kept-no-series, renewed-sender, renewed-other, series-renewed, by-origin, placed-lengths, placed-fits, placed-length}
+use Rattle.facts.specs.Remarking.{remarked-no-series, series-remarked, remarked-length}
 use Rattle.promises.specs.Parts.{afterOf}
-
--- ---- how many blocks there are
-
-after-length : (n : ℕ) (us : List Block) (h : Block) (series : List Block) → length (usedAfter n us h series) ≡ length us + length (fresh us h series)
-unfolding usedAfter placed
-after-length n us h series =
-    length-map (map (renewed (slotFor us (sender h)) h series) us ++ fresh us h series) _
-    ∙ length-append (map (renewed (slotFor us (sender h)) h series) us) (fresh us h series) ∙ ap (λ k. k + length (fresh us h series)) (length-map us _)
-
-fresh-few : (us : List Block) (h : Block) (series : List Block) → length (fresh us h series) ≤ newBlocks (ownSender us (sender h)) (ownSeries us (sender h)) series
-unfolding fresh newBlocks ownSender slotOf numbered
-fresh-few us h series =
-    let k = length-map (keep (isNew (ownSeries us (sender h))) series) (withSendersSlot (slotFor us (sender h))) in
-    let l = count-keep (isNew (ownSeries us (sender h))) series in
-    split (has (isSenderBlockOf (sender h)) us)
-    (λ t. rw t (omega arith))
-    (λ t. rw (t, has-no-place _ us t, no-block-sender) (omega arith))
 
 -- ---- no block is free
 
@@ -77,10 +57,10 @@ module _ (us : List Block) (h : Block) (series : List Block) (c : Shape us h ser
           (λ t. rw (renewed-sender us h series c x t) (live-other _ (sender-kept-no-series us h series c) (sender-kept-is-sender us h series c)))
           (λ t. rw (renewed-other us h series c x t (series-of-other _ x s)) (live-other x s (split (isSender x) (λ v. v) (λ v. clash (or-else _ _ q v) s)))))
 
-  after-lengths : All (λ x. length x ≡ 512) (usedAfter n us h series)
+  after-lengths : All (λ x. length x ≡ 512) us → All (λ x. length x ≡ 512) (usedAfter n us h series)
   unfolding usedAfter
-  after-lengths = all-map (λ x. length x ≡ 512) put (placed us h series)
-      (all-imply (λ x. length x ≡ 512) (λ x. length (put x) ≡ 512) (λ x e. remarked-length n _ _ x ∙ e) (placed us h series) (placed-lengths us h series c))
+  after-lengths l = all-map (λ x. length x ≡ 512) put (placed us h series)
+      (all-imply (λ x. length x ≡ 512) (λ x. length (put x) ≡ 512) (λ x e. remarked-length n _ _ x ∙ e) (placed us h series) (placed-lengths us h series c l))
 
 -- ---- of an accepted message
 
@@ -92,7 +72,7 @@ free-from book s k h =
 
 module _ (book message : Bytes) (a : Accepts book message) where
   pub lengths-after : All (λ x. length x ≡ 512) (afterOf book message)
-  lengths-after = after-lengths (used book) (headOf message) (seriesOf message) (shape book message a) (nOf (dayBlock book))
+  lengths-after = after-lengths (used book) (headOf message) (seriesOf message) (shape book message a) (nOf (dayBlock book)) (used-lengths book)
 
   pub live-after : All (λ x. (isSender x or isSeries x) ≡ true) (afterOf book message)
   live-after = after-live (used book) (headOf message) (seriesOf message) (shape book message a) (nOf (dayBlock book)) (used-live book (a .was))
@@ -100,22 +80,15 @@ module _ (book message : Bytes) (a : Accepts book message) where
   used-after : All (λ x. isFree x ≡ false) (afterOf book message)
   used-after = all-imply (λ x. (isSender x or isSeries x) ≡ true) (λ x. isFree x ≡ false) kind-used (afterOf book message) live-after
 
+  after-length : length (afterOf book message) ≡ length (placed (used book) (headOf message) (seriesOf message))
+  unfolding usedAfter
+  after-length = length-map (placed (used book) (headOf message) (seriesOf message)) _
+
   pub after-fits : length (afterOf book message) < length book / 512
-  unfolding used freeSlots
-  after-fits =
-      let r : 2 ≤ length book / 512 = a .was .least in
-      let f = a .fits in
-      omega (
-        arith,
-        after-length (nOf (dayBlock book)) (used book) (headOf message) (seriesOf message),
-        fresh-few (used book) (headOf message)
-            (seriesOf message),
-        until-count isFree (slots book),
-        slots-length book,
-      )
+  after-fits = let r : 2 ≤ length book / 512 = a .was .least in omega (arith, after-length, placed-fits book message a, slots-length book)
 
   pub after-most : length (used book) ≤ length (afterOf book message)
-  after-most = omega (arith, after-length (nOf (dayBlock book)) (used book) (headOf message) (seriesOf message))
+  after-most = omega (arith, after-length, placed-length (used book) (headOf message) (seriesOf message))
 
   rest-after : All (λ x. isFree x ≡ true) (blocks (drop (512 + 512 * length (afterOf book message)) book))
   rest-after = rw (slots-rest book (length (afterOf book message))) (free-from book (a .was) (length (afterOf book message)) after-most)

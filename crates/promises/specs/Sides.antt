@@ -5,7 +5,7 @@ use mathlib.Core.Bool.{true}
 use mathlib.Core.List.{List}
 use lib.ListN.{take}
 use Rattle.laws.specs.Tests.{_and_, neg, is}
-use Rattle.laws.specs.Tests.Laws.{split, and-left, and-right, and-no-left, or-else, neg-yes, neg-true, neg-false, is-yes, is-no, is-equal, is-other}
+use Rattle.laws.specs.Tests.Laws.{split, and-left, and-right, and-no-left, or-else, neg-yes, neg-true, neg-false, is-yes, is-no, is-equal, is-other, and-agree}
 use Rattle.laws.specs.Lists.{same, has, All}
 use Rattle.laws.specs.Lists.Same.{same-yes, same-other, same-no}
 use Rattle.laws.specs.Lists.Each.{all-imply}
@@ -14,9 +14,8 @@ use Rattle.paper.specs.Book.{isSeries, isSenderBlockOf, slotOf, pairIs, isSerie
 use Rattle.paper.specs.Sound.{partiesOf}
 use Rattle.paper.specs.Marks.{isCounterpart}
 use Rattle.paper.specs.PlainRule.{otherParty}
-use Rattle.promises.specs.Laws.{and-agree}
-use Rattle.promises.specs.Pairs.{pair-is-yes}
-use Rattle.promises.specs.Senders.{slot-of-one, Owner, Owned}
+use Rattle.facts.specs.Pairs.{pair-is-yes}
+use Rattle.facts.specs.Senders.{slot-of-one, Owner, Owned}
 
 -- ---- two parties of one pair
 

@@ -7,7 +7,7 @@ use lib.ListN.{length}
 use Rattle.laws.specs.Tests.Laws.{split, clash, and-left, and-right, and-both, or-no, or-yes-right, neg-yes, is-yes, is-equal}
 use Rattle.laws.specs.Lists.{has, every, apart, All}
 use Rattle.laws.specs.Lists.Same.{same-yes, same-equal}
-use Rattle.laws.specs.Lists.Each.{all-imply, all-both, all-each, all-keep, all-map}
+use Rattle.laws.specs.Lists.Each.{all-imply, all-both, all-each, all-keep, all-map, all-swap, all-keep-back}
 use Rattle.laws.specs.Lists.Search.{has-no-all}
 use Rattle.laws.specs.Lists.Apart.{apart-append, apart-keep, apart-none, apart-map}
 use Rattle.paper.specs.Layout.{Bytes, Block, idOf, sender, sendersSlot, pair, withSendersSlot}
@@ -18,12 +18,11 @@ use Rattle.paper.specs.Rules.{isNew}
 use Rattle.paper.specs.Acceptance.{slotFor, senderKept, fresh, placed, usedAfter}
 use Rattle.facts.specs.Layout.{pair-with-senders-slot, alike-senders-slot, alike-id}
 use Rattle.facts.specs.Book.{series-not-sender, sender-block-sender, sender-block-eic, sender-block-yes, sender-block-own, series-of-yes}
-use Rattle.promises.specs.Laws.{all-swap, all-keep-back}
-use Rattle.promises.specs.Facts.{Straight, Line, sameIdOrPair, Accepts}
-use Rattle.promises.specs.Pairs.{pair-is-equal}
-use Rattle.promises.specs.Remarking.{alike-remarked, series-remarked, senders-slot-remarked, pair-remarked, sender-block-remarked}
-use Rattle.promises.specs.Renewal.{Shape, shape, series-with-senders-slot, sender-kept-sender, sender-kept-no-series, by-renewed, series-renewed, renewed-keeps, sender-block-renewed, renewed-others-series, adopted, by-fresh}
-use Rattle.promises.specs.Senders.{owned, own-series}
+use Rattle.facts.specs.Verdict.{Straight, Line, sameIdOrPair, Accepts}
+use Rattle.facts.specs.Pairs.{pair-is-equal}
+use Rattle.facts.specs.Remarking.{alike-remarked, series-remarked, senders-slot-remarked, pair-remarked, sender-block-remarked}
+use Rattle.facts.specs.Renewal.{Shape, shape, series-with-senders-slot, sender-kept-sender, sender-kept-no-series, by-renewed, series-renewed, renewed-keeps, sender-block-renewed, renewed-others-series, adopted, by-fresh}
+use Rattle.facts.specs.Senders.{owned, own-series}
 use Rattle.promises.specs.Parts.{senderSlot, newOf, placedOf, remarkedOf, afterOf, Acceptance, parts}
 
 -- ---- two blocks of one sender

@@ -17,10 +17,11 @@ use Rattle.paper.specs.Message.{headOf, seriesOf}
 use Rattle.paper.specs.Acceptance.{slotFor, senderKept, renewed, placed, touched, remarked, usedAfter, accepted}
 use Rattle.facts.specs.Check.{sealed-right}
 use Rattle.facts.specs.Layout.{with-senders-slot-length}
-use Rattle.facts.specs.Book.{series-of-series, series-of-slot, blocks-book}
-use Rattle.promises.specs.Facts.{Sound, Accepts}
-use Rattle.promises.specs.Remarking.{remarked-touched, remarked-untouched}
-use Rattle.promises.specs.Renewal.{Shape, shape, series-with-senders-slot, sender-kept-length, renewed-sender, renewed-other, series-renewed, renewed-keeps, renewed-length, adopted, by-origin}
+use Rattle.facts.specs.Book.{series-of-series, series-of-slot, blocks-book, used-lengths}
+use Rattle.facts.specs.Sound.{Sound}
+use Rattle.facts.specs.Verdict.{Accepts}
+use Rattle.facts.specs.Remarking.{remarked-touched, remarked-untouched}
+use Rattle.facts.specs.Renewal.{Shape, shape, series-with-senders-slot, sender-kept-length, renewed-sender, renewed-other, series-renewed, renewed-keeps, renewed-length, adopted, by-origin}
 use Rattle.promises.specs.Marks.{own-touched}
 use Rattle.promises.specs.Parts.{afterOf}
 use Rattle.promises.specs.ReadBack.{free-from, after-most, used-accepted, slots-accepted, day-block-accepted, accepted-length}
@@ -75,13 +76,13 @@ module _ (us : List Block) (h : Block) (series : List Block) (c : Shape us h ser
       clash (own-touched slot now (again x) (series-renewed us h series c x ∙ s) (renewed-keeps us h series c .slot x s ∙ series-of-slot slot x v)) u)
       (λ v. rw (renewed-other us h series c x t v) (q .1))))
 
-  after-right : All (λ x. checkRight x ≡ true) us → All (λ x. checkRight x ≡ true) (usedAfter n us h series)
+  after-right : All (λ x. length x ≡ 512) us → All (λ x. checkRight x ≡ true) us → All (λ x. checkRight x ≡ true) (usedAfter n us h series)
   unfolding usedAfter
-  after-right r =
+  after-right l r =
       all-map (λ x. checkRight x ≡ true) (remarked n slot now) now
       (by-origin us h series c (λ x. checkRight (remarked n slot now x) ≡ true) (λ x. (length x ≡ 512) × (checkRight x ≡ true))
       (λ y. (length y ≡ 512) × (isSeries y ≡ true))
-      (all-both (λ x. length x ≡ 512) (λ x. checkRight x ≡ true) us (c .lengths) r) (all-both (λ y. length y ≡ 512) (λ y. isSeries y ≡ true) series (c .series-whole)
+      (all-both (λ x. length x ≡ 512) (λ x. checkRight x ≡ true) us l r) (all-both (λ y. length y ≡ 512) (λ y. isSeries y ≡ true) series (c .series-whole)
       (c .series-kind))
       stored-right (remarked-right n slot now _ (sender-kept-length us h series c) (λ u. sender-kept-right))
       (λ y q. remarked-right n slot now _ (with-senders-slot-length slot y ∙ q .0)
@@ -100,7 +101,7 @@ module _ (book message : Bytes) (a : Accepts book message) where
       (rw (day-block-accepted book message a) (checks-parted book (a .was) .0))
       (rw (slots-accepted book message a)
       (all-append (λ x. checkRight x ≡ true) (afterOf book message) (drop (length (afterOf book message)) (slots book))
-      (after-right (used book) (headOf message) (seriesOf message) (shape book message a) (nOf (dayBlock book)) used-right)
+      (after-right (used book) (headOf message) (seriesOf message) (shape book message a) (nOf (dayBlock book)) (used-lengths book) used-right)
       (all-drop (λ x. checkRight x ≡ true) (length (afterOf book message)) (slots book) (checks-parted book (a .was) .1))))
 
   pub free-kept : All (λ x. isFree x ≡ true) (drop (length (used (accepted book message))) (slots (accepted book message)))

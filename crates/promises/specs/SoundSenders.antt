@@ -11,7 +11,7 @@ use Rattle.laws.specs.Tests.Laws.{split, clash, and-left, and-right, and-both, 
 use Rattle.laws.specs.Lists.{same, count, keep, total, All}
 use Rattle.laws.specs.Lists.Same.{same-yes}
 use Rattle.laws.specs.Lists.Each.{all-imply, all-both, all-map}
-use Rattle.laws.specs.Lists.Count.{count-keep}
+use Rattle.laws.specs.Lists.Count.{count-keep, length-total}
 use Rattle.paper.specs.Layout.{Bytes, Block, nOf, seriesCount, sender, quantity, withSendersSlot}
 use Rattle.paper.specs.Ranges.{countAllowed}
 use Rattle.paper.specs.Book.{dayBlock, used, isSender, isSeries, isSenderBlockOf, slotOf, isSeriesOf}
@@ -20,11 +20,11 @@ use Rattle.paper.specs.Message.{headOf, seriesOf}
 use Rattle.paper.specs.Acceptance.{senderKept, usedAfter}
 use Rattle.facts.specs.Layout.{sender-with-nets, n-with-nets, version-with-nets, series-count-with-nets, id-with-nets, receiver-with-nets, day-of-message-with-nets, sender-zeros-with-nets}
 use Rattle.facts.specs.Book.{series-not-sender, sender-block-yes, series-of-other}
-use Rattle.promises.specs.Laws.{length-total}
-use Rattle.promises.specs.Facts.{day-n, used-sender, used-other, series-some-few, Line, Accepts}
-use Rattle.promises.specs.Remarking.{remarked-no-series, series-remarked}
-use Rattle.promises.specs.Renewal.{Shape, shape, series-with-senders-slot, sender-kept-sender, sender-kept-no-series, renewed-sender, renewed-other, series-renewed, by-origin}
-use Rattle.promises.specs.Senders.{slots-differ, slot-after-own, slot-after-other}
+use Rattle.facts.specs.Sound.{day-n, used-sender, used-other}
+use Rattle.facts.specs.Verdict.{series-some-few, Line, Accepts}
+use Rattle.facts.specs.Remarking.{remarked-no-series, series-remarked}
+use Rattle.facts.specs.Renewal.{Shape, shape, series-with-senders-slot, sender-kept-sender, sender-kept-no-series, renewed-sender, renewed-other, series-renewed, by-origin}
+use Rattle.facts.specs.Senders.{slots-differ, slot-after-own, slot-after-other}
 use Rattle.promises.specs.Parts.{ownOf, afterOf, Acceptance, parts}
 use Rattle.promises.specs.ReadBack.{live-after}
 use Rattle.promises.specs.SoundSeries.{each-series-kept}

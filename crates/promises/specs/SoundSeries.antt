@@ -24,11 +24,12 @@ use Rattle.paper.specs.Rules.{seriesVersion, storedOf}
 use Rattle.paper.specs.Marks.{isCounterpart, counterpart, counterpartSlot, differenceFrom, firstDifference, markOf, markIn}
 use Rattle.paper.specs.Acceptance.{senderKept, touched, usedAfter}
 use Rattle.facts.specs.Layout.{with-senders-slot-length, mark-with-mark, pair-with-senders-slot, Alike, alike-senders-slot, alike-n, alike-version, alike-business-type, alike-contract-type, alike-id, alike-in-area, alike-out-area, alike-in-party, alike-out-party, alike-agreement, alike-quantity, alike-above, mark-state, mark-first, mark-partner, zeros-above}
-use Rattle.facts.specs.Book.{no-block-series, sender-block-sender, sender-block-eic, series-of-series, series-of-slot, numbered-place}
-use Rattle.promises.specs.Facts.{day-n, used-series, Line, Accepts}
-use Rattle.promises.specs.Pairs.{counterpart-series}
-use Rattle.promises.specs.Remarking.{remarked-touched, remarked-untouched, alike-remarked, series-remarked, senders-slot-remarked, pair-remarked}
-use Rattle.promises.specs.Renewal.{Shape, shape, series-with-senders-slot, sender-kept-no-series, by-renewed, series-renewed, renewed-keeps, renewed-length, renewed-others-series, adopted, by-origin}
+use Rattle.facts.specs.Book.{no-block-series, sender-block-sender, sender-block-eic, series-of-series, series-of-slot, numbered-place, used-lengths}
+use Rattle.facts.specs.Sound.{day-n, used-series}
+use Rattle.facts.specs.Verdict.{Line, Accepts}
+use Rattle.facts.specs.Pairs.{counterpart-series}
+use Rattle.facts.specs.Remarking.{remarked-touched, remarked-untouched, alike-remarked, series-remarked, senders-slot-remarked, pair-remarked}
+use Rattle.facts.specs.Renewal.{Shape, shape, series-with-senders-slot, sender-kept-no-series, by-renewed, series-renewed, renewed-keeps, renewed-length, renewed-others-series, adopted, by-origin}
 use Rattle.promises.specs.Marks.{own-touched}
 use Rattle.promises.specs.Parts.{afterOf, Acceptance, parts}
 use Rattle.promises.specs.SoundSlots.{placed-few, series-placed, series-stored, sender-stored, sender-there}
@@ -267,7 +268,7 @@ module _ (book message : Bytes) (a : Accepts book message) where
       all-map (λ z. isSeries z ≡ true → seriesSound d after z ≡ true) put now
       (by-origin us h series c (λ z. isSeries (put z) ≡ true → seriesSound d after (put z) ≡ true) (λ x. (length x ≡ 512) × (usedSound d us x ≡ true))
       (Right d (sender h))
-      (all-both (λ x. length x ≡ 512) (λ x. usedSound d us x ≡ true) us (c .lengths) (a .was .each)) series-right stored added young)
+      (all-both (λ x. length x ≡ 512) (λ x. usedSound d us x ≡ true) us (used-lengths book) (a .was .each)) series-right stored added young)
     where
       stored : (x : Block) → (length x ≡ 512) × (usedSound d us x ≡ true) → isSeries (put (again x)) ≡ true → seriesSound d after (put (again x)) ≡ true
       stored x q s =

@@ -12,10 +12,10 @@ use Rattle.paper.specs.Book.{dayBlock, used, isSender, isSeries, numbered, isSe
 use Rattle.paper.specs.Message.{headOf, seriesOf}
 use Rattle.paper.specs.Acceptance.{fresh, placed, usedAfter}
 use Rattle.facts.specs.Book.{no-block-sender, no-block-series, sender-block-own, numbered-map, numbered-append-left, numbered-inside, numbered-place}
-use Rattle.promises.specs.Facts.{Accepts}
-use Rattle.promises.specs.Remarking.{series-remarked, sender-block-remarked}
-use Rattle.promises.specs.Renewal.{Shape, shape, series-renewed, sender-block-renewed}
-use Rattle.promises.specs.Senders.{slot-for-known, slot-for-new, slot-of-none, slot-of-positive, slot-after-own}
+use Rattle.facts.specs.Verdict.{Accepts}
+use Rattle.facts.specs.Remarking.{series-remarked, sender-block-remarked}
+use Rattle.facts.specs.Renewal.{Shape, shape, series-renewed, sender-block-renewed}
+use Rattle.facts.specs.Senders.{slot-for-known, slot-for-new, slot-of-none, slot-of-positive, slot-after-own}
 use Rattle.promises.specs.Parts.{senderSlot, placedOf, afterOf, Acceptance, parts}
 use Rattle.promises.specs.ReadBack.{after-fits}
 

@@ -26,7 +26,9 @@ use Rattle.paper.specs.Clock.{clockAnswer, clockMoved}
 use Rattle.facts.specs.Check.{sealed-right}
 use Rattle.facts.specs.Layout.{with-clock-length, clock-with-clock, kind-with-clock, n-with-clock, lead-with-clock, day-of-book-with-clock, area-with-clock, receiver-with-clock, day-zeros-with-clock}
 use Rattle.facts.specs.Book.{day-block-append, slots-append, free-right}
-use Rattle.promises.specs.Facts.{Sound, is-sound, day-block-length, Accepts, accepts, Moves, moves, Opens, opens}
+use Rattle.facts.specs.Sound.{Sound, is-sound, day-block-length}
+use Rattle.facts.specs.Verdict.{Accepts, accepts}
+use Rattle.facts.specs.Calls.{Moves, moves, Opens, opens}
 use Rattle.promises.specs.ReadBack.{used-accepted, day-block-accepted, accepted-length}
 use Rattle.promises.specs.SoundBytes.{book-long, checks-parted, checks-joined, checks-kept, free-kept}
 use Rattle.promises.specs.SoundApart.{senders-kept, series-kept}

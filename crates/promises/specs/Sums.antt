@@ -8,13 +8,13 @@ use native.Mathlib.Nat.{add-zero}
 use lib.ListN.{length}
 use Rattle.laws.specs.Tests.{is}
 use Rattle.laws.specs.Tests.Laws.{split, is-no}
-use Rattle.laws.specs.Lists.{find, has, apart, keep, total, All}
+use Rattle.laws.specs.Lists.{find, has, apart, keep, total, All, ofFound}
 use Rattle.laws.specs.Lists.Same.{same-swap}
 use Rattle.laws.specs.Lists.Each.{all-imply, all-both, all-each, all-keep, all-kept, all-map}
 use Rattle.laws.specs.Lists.Search.{has-yes, has-no-find, all-has-no}
 use Rattle.laws.specs.Lists.Apart.{apart-keep}
-use Rattle.laws.specs.Lists.Count.{total-append, total-agree, total-keep, total-sieve, total-map}
-use Rattle.laws.specs.Lists.Keep.{keep-append, keep-all, keep-none}
+use Rattle.laws.specs.Lists.Count.{total-append, total-agree, total-keep, total-sieve, total-map, total-one, total-each, total-swap}
+use Rattle.laws.specs.Lists.Keep.{keep-append, keep-all, keep-none, keep-map-each}
 use Rattle.paper.specs.Layout.{Bytes, Block, sender, sendersSlot, pair, withSendersSlot}
 use Rattle.paper.specs.Book.{used, isSeries, isSenderBlockOf, isSeriesOf, pairIs}
 use Rattle.paper.specs.Sound.{sameSeries}
@@ -22,12 +22,11 @@ use Rattle.paper.specs.Message.{headOf, seriesOf}
 use Rattle.paper.specs.Rules.{isNew}
 use Rattle.paper.specs.Acceptance.{senderKept, replaced, fresh, placed, usedAfter}
 use Rattle.facts.specs.Book.{series-of-series, series-of-slot, series-of-yes, series-of-other}
-use Rattle.promises.specs.Laws.{keep-map-each, ofFound, total-one, total-each, total-swap}
-use Rattle.promises.specs.Facts.{sameIdOrPair, Accepts}
-use Rattle.promises.specs.Pairs.{pair-is-yes, series-of-kept}
-use Rattle.promises.specs.Remarking.{remarked-keeps}
-use Rattle.promises.specs.Renewal.{Shape, shape, series-with-senders-slot, sender-kept-no-series, renewed-own, renewed-keeps, renewed-others-series, adopted, fresh-slots}
-use Rattle.promises.specs.Senders.{owned, own-series}
+use Rattle.facts.specs.Verdict.{sameIdOrPair, Accepts}
+use Rattle.facts.specs.Pairs.{pair-is-yes, series-of-kept}
+use Rattle.facts.specs.Remarking.{remarked-keeps}
+use Rattle.facts.specs.Renewal.{Shape, shape, series-with-senders-slot, sender-kept-no-series, renewed-own, renewed-keeps, renewed-others-series, adopted, fresh-slots}
+use Rattle.facts.specs.Senders.{owned, own-series}
 use Rattle.promises.specs.Parts.{senderSlot, newOf, afterOf, Acceptance, parts}
 use Rattle.promises.specs.SoundApart.{same-series-yes, same-pair-yes}
 

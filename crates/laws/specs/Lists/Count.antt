@@ -1,16 +1,17 @@
 -- How many elements pass a test (count), and the sum of what each gives (total).
-use mathlib.Core.Path.{_≡_, refl, ap}
-use mathlib.Core.Bool.{Bool, cond}
+use mathlib.Core.Path.{_≡_, refl, ap, sym, _∙_}
+use mathlib.Core.Bool.{Bool, cond, true}
 use mathlib.Core.List.{List, [], _∷_, _++_, map}
 use Prim.Native.Nat.{ℕ, suc, _+_, _*_, _≤_, _<_}
-use native.Mathlib.Nat.{mul-suc}
+use native.Mathlib.Nat.{mul-suc, zero-add}
 use native.Mathlib.Numerals.{add-one}
 use native.Mathlib.Omega.{arith}
 use lib.ListN.{length, take, getD}
 use lib.Seq.{take-suc}
 use Rattle.laws.specs.Tests.{neg}
-use Rattle.laws.specs.Tests.Laws.{split}
-use Rattle.laws.specs.Lists.{count, keep, total, All}
+use Rattle.laws.specs.Tests.Laws.{split, and-left, and-right, neg-yes, clash}
+use Rattle.laws.specs.Lists.{find, count, keep, total, ofFound, All, apart}
+use Rattle.laws.specs.Lists.Each.{all-each, every-all}
 
 module _ {A : Type 0} where
   -- ---- count
@@ -42,6 +43,11 @@ module _ {A : Type 0} where
   total-append g [] r = omega arith
   total-append g (x ∷ xs) r = omega (arith, total-append g xs r)
 
+  pub total-plus : (g h : A → ℕ) (l : List A) → total (λ x. g x + h x) l ≡ total g l + total h l
+  unfolding total
+  total-plus g h [] = refl
+  total-plus g h (x ∷ xs) = omega (arith, total-plus g h xs)
+
   pub total-more : (g : A → ℕ) (l : List A) (i : ℕ) (d : A) → i < length l → total g (take (i + 1) l) ≡ total g (take i l) + g (getD l i d)
   unfolding total
   total-more g l i d h = rw (add-one i, take-suc l i d h) (omega (arith, total-append g (take i l) (getD l i d ∷ [])))
@@ -50,6 +56,9 @@ module _ {A : Type 0} where
   unfolding total
   total-agree g h [] e = refl
   total-agree g h (x ∷ xs) e = rw (e .0, total-agree g h xs (e .1))
+
+  pub total-each : (g h : A → ℕ) → ((x : A) → g x ≡ h x) → (l : List A) → total g l ≡ total h l
+  total-each g h f l = total-agree g h l (all-each (λ x. g x ≡ h x) f l)
 
   pub total-keep : (g : A → ℕ) (p : A → Bool) (l : List A) → total g (keep p l) ≡ total (λ x. cond (p x) (g x) 0) l
   unfolding total keep
@@ -67,10 +76,28 @@ module _ {A : Type 0} where
   total-none g [] h = refl
   total-none g (x ∷ xs) h = omega (arith, h .0, total-none g xs (h .1))
 
+  -- where at most one element passes, the sum over those that pass is what the one found gives
+  pub total-one : (c : A → A → Bool) (Q : A → Type 0) (p : A → Bool) (g : A → ℕ) → ((x y : A) → Q x → Q y → p x ≡ true → p y ≡ true → c x y ≡ true)
+      → (l : List A) → All Q l → apart c l ≡ true → total (λ x. cond (p x) (g x) 0) l ≡ ofFound g (find p l)
+  unfolding total find apart ofFound
+  total-one c Q p g f [] q a = refl
+  total-one c Q p g f (x ∷ xs) q a = split (p x)
+      (λ t. rw t (omega (arith, total-none (λ y. cond (p y) (g y) 0) xs (one t xs (q .1) (every-all _ xs (and-left _ _ a))))))
+      (λ t. rw (t, zero-add (total (λ y. cond (p y) (g y) 0) xs)) (total-one c Q p g f xs (q .1) (and-right _ _ a)))
+    where
+      one : p x ≡ true → (l : List A) → All Q l → All (λ y. neg (c x y) ≡ true) l → All (λ y. cond (p y) (g y) 0 ≡ 0) l
+      one t [] r s = tt
+      one t (y ∷ ys) r s = (split (p y) (λ u. clash (f x y (q .0) (r .0) t u) (neg-yes _ (s .0))) (λ u. rw u), one t ys (r .1) (s .1))
+
   pub total-bound : (g : A → ℕ) (m : ℕ) (l : List A) → All (λ x. g x ≤ m) l → total g l ≤ m * length l
   unfolding total
   total-bound g m [] h = omega arith
   total-bound g m (x ∷ xs) h = rw (mul-suc m (length xs)) (omega (arith, h .0, total-bound g m xs (h .1)))
+
+  pub length-total : (l : List A) → length l ≡ total (λ x. 1) l
+  unfolding total
+  length-total [] = refl
+  length-total (x ∷ xs) = omega (arith, length-total xs)
 
 module _ {A B : Type 0} where
   -- ---- of elements that are changed
@@ -84,3 +111,9 @@ module _ {A B : Type 0} where
   unfolding total
   total-map f g [] = refl
   total-map f g (x ∷ xs) = rw (total-map f g xs)
+
+-- a sum of sums, taken in either order
+pub total-swap : {A B : Type 0} (f : A → B → ℕ) (l : List A) (r : List B) → total (λ x. total (f x) r) l ≡ total (λ y. total (λ x. f x y) l) r
+unfolding total
+total-swap f [] r = sym (total-none (λ y. 0) r (all-each (λ y. 0 ≡ 0) (λ y. refl) r))
+total-swap f (x ∷ xs) r = ap (λ n. total (f x) r + n) (total-swap f xs r) ∙ sym (total-plus (f x) (λ y. total (λ z. f z y) xs) r)

@@ -60,6 +60,12 @@ module _ {A : Type 0} where
   all-kept p [] = tt
   all-kept p (x ∷ xs) = split (p x) (λ e. rw e (e, all-kept p xs)) (λ e. rw e (all-kept p xs))
 
+  pub all-keep-back : (P : A → Type 0) (p : A → Bool) (l : List A) → All P (keep p l) → All (λ x. p x ≡ true → P x) l
+  unfolding keep
+  all-keep-back P p [] h = tt
+  all-keep-back P p (x ∷ xs) h = split (p x) (λ t. let q = rw t at h in ((λ u. q .0), all-keep-back P p xs (q .1)))
+      (λ t. ((λ u. clash u t), all-keep-back P p xs (rw t at h)))
+
   pub all-until : (P : A → Type 0) (p : A → Bool) (l : List A) → All P l → All P (until p l)
   unfolding until
   all-until P p [] h = tt
@@ -153,6 +159,13 @@ module _ {A B : Type 0} where
   pub all-map : (P : B → Type 0) (f : A → B) (l : List A) → All (λ x. P (f x)) l → All P (map f l)
   all-map P f [] h = tt
   all-map P f (x ∷ xs) h = (h .0, all-map P f xs (h .1))
+
+  pub all-swap : (R : A → B → Type 0) (l : List A) (r : List B) → All (λ y. All (λ x. R x y) l) r → All (λ x. All (λ y. R x y) r) l
+  all-swap R [] r h = tt
+  all-swap R (x ∷ xs) r h = (
+    all-imply (λ y. All (λ z. R z y) (x ∷ xs)) (λ y. R x y) (λ y q. q .0) r h,
+    all-swap R xs r (all-imply (λ y. All (λ z. R z y) (x ∷ xs)) (λ y. All (λ z. R z y) xs) (λ y q. q .1) r h),
+  )
 
   pub map-append : (f : A → B) (l r : List A) → map f (l ++ r) ≡ map f l ++ map f r
   map-append f [] r = refl

@@ -2,12 +2,13 @@
 use mathlib.Core.Path.{_≡_, refl, sym, ap, _∙_}
 use mathlib.Core.Bool.{Bool, true, false}
 use mathlib.Core.List.{List, [], _∷_, _++_, map}
-use Prim.Native.Nat.{ℕ, zero, suc, _≤_, _<_}
+use Prim.Native.Nat.{ℕ, zero, suc, _≤_, _<_, _+_}
 use native.Mathlib.Omega.{arith}
 use lib.ListN.{length, take, getD}
 use lib.Seq.{take-all}
-use Rattle.laws.specs.Tests.Laws.{split, cond-apply, or-no, or-left, or-right}
-use Rattle.laws.specs.Lists.{has, keep, until, All}
+use Rattle.laws.specs.Tests.Laws.{split, cond-apply, or-left, or-right, or-no}
+use Rattle.laws.specs.Lists.{has, keep, until, All, count}
+use Rattle.laws.specs.Lists.Each.{all-each}
 use Rattle.laws.specs.Lists.Count.{count-keep, count-length}
 
 module _ {A : Type 0} where
@@ -42,6 +43,11 @@ module _ {A : Type 0} where
   unfolding until
   until-length p [] = omega arith
   until-length p (x ∷ xs) = split (p x) (λ e. rw e (omega arith)) (λ e. rw e (omega (arith, until-length p xs)))
+
+  pub until-count : (p : A → Bool) (l : List A) → length (until p l) + count p l ≤ length l
+  unfolding until count
+  until-count p [] = omega arith
+  until-count p (x ∷ xs) = split (p x) (λ t. rw t (omega (arith, count-length p xs))) (λ t. rw t (omega (arith, until-count p xs)))
 
   pub until-has : (p : A → Bool) (l : List A) → has p (until p l) ≡ false
   unfolding until has
@@ -85,3 +91,6 @@ module _ {A B : Type 0} where
   unfolding keep
   keep-map f p [] = refl
   keep-map f p (x ∷ xs) = rw (keep-map f p xs) (sym (cond-apply (map f) (p (f x)) (x ∷ keep (λ y. p (f y)) xs) (keep (λ y. p (f y)) xs)))
+
+  pub keep-map-each : (f : A → B) (p : B → Bool) (q : A → Bool) → ((x : A) → p (f x) ≡ q x) → (l : List A) → keep p (map f l) ≡ map f (keep q l)
+  keep-map-each f p q h l = keep-map f p l ∙ ap (map f) (keep-agree (λ x. p (f x)) q l (all-each (λ x. p (f x) ≡ q x) h l))

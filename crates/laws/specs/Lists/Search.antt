@@ -6,8 +6,8 @@ use mathlib.Core.List.{List, [], _∷_, _++_, map}
 use Prim.Native.Nat.{ℕ, zero, suc, _-_, _≤_, _<_}
 use native.Mathlib.Omega.{arith}
 use lib.ListN.{length, getD}
-use Rattle.laws.specs.Tests.{_and_, _or_, neg}
-use Rattle.laws.specs.Tests.Laws.{split, clash, cond-apply, or-no, or-left, or-right, neg-false}
+use Rattle.laws.specs.Tests.{_and_, _or_, neg, is}
+use Rattle.laws.specs.Tests.Laws.{split, clash, cond-apply, or-left, or-right, or-no, neg-false, is-other, is-equal}
 use Rattle.laws.specs.Lists.{further, find, place, nth, has, every, keep, All}
 use Rattle.laws.specs.Lists.Each.{all-imply, all-each, all-find, every-all, nth-getD}
 
@@ -153,6 +153,15 @@ module _ {A : Type 0} where
   place-length p [] = omega arith
   place-length p (y ∷ ys) = split (p y) (λ t. rw t (omega arith)) (λ t. rw t (further-length _ _ (place-length p ys)))
 
+  -- a place of 0 says that there is none
+  pub place-is-0 : (p : A → Bool) (l : List A) → is (place p l) 0 ≡ neg (has p l)
+  unfolding neg
+  place-is-0 p l = split (has p l) (λ t. rw t (is-other _ _ (λ z. omega (arith, place-positive p l t)))) (λ t. rw t (is-equal _ _ (has-no-place p l t)))
+
+  pub place-is-not-0 : (p : A → Bool) (l : List A) → neg (is (place p l) 0) ≡ has p l
+  unfolding neg
+  place-is-not-0 p l = split (has p l) (λ t. rw (place-is-0 p l, t)) (λ t. rw (place-is-0 p l, t))
+
   -- the element at the place of the first that passes is that first
   pub nth-place : (p : A → Bool) (l : List A) → nth l (place p l) ≡ find p l
   unfolding nth place find
@@ -207,6 +216,9 @@ module _ {A B : Type 0} where
   has-map f p [] = refl
   has-map f p (x ∷ xs) = rw (has-map f p xs)
 
+  pub has-map-each : (f : A → B) (p : B → Bool) (q : A → Bool) → ((x : A) → p (f x) ≡ q x) → (l : List A) → has p (map f l) ≡ has q l
+  has-map-each f p q h l = has-map f p l ∙ has-agree (λ x. p (f x)) q l (all-each (λ x. p (f x) ≡ q x) h l)
+
   pub find-map-all : (f : A → B) (p : B → Bool) (q : A → Bool) (l : List A) → All (λ x. p (f x) ≡ q x) l → find p (map f l) ≡ Option·map f (find q l)
   unfolding find
   find-map-all f p q [] h = refl
@@ -219,3 +231,19 @@ module _ {A B : Type 0} where
   unfolding place
   place-map f p [] = refl
   place-map f p (x ∷ xs) = rw (place-map f p xs)
+
+  -- a test that a change does not alter
+  pub place-map-each : (f : A → B) (p : B → Bool) (q : A → Bool) → ((x : A) → p (f x) ≡ q x) → (l : List A) → place p (map f l) ≡ place q l
+  place-map-each f p q h l = place-map f p l ∙ place-agree (λ x. p (f x)) q l (all-each (λ x. p (f x) ≡ q x) h l)
+
+  -- what is found is seen alike: both find or neither does
+  pub has-viewed : (view : A → B) (p q : A → Bool) (l r : List A) → Option·map view (find p l) ≡ Option·map view (find q r) → has p l ≡ has q r
+  has-viewed view p q l r e = split (has p l)
+      (λ t. t ∙ sym (split (has q r) (λ u. u) (λ u. absurd (one-alone q r p l (sym e) u t))))
+      (λ t. t ∙ sym (split (has q r) (λ u. absurd (one-alone p l q r e t u)) (λ u. u)))
+    where
+      one-alone : (p : A → Bool) (l : List A) (q : A → Bool) (r : List A) → Option·map view (find p l) ≡ Option·map view (find q r) → has p l ≡ false → has q r ≡ true → ⊥
+      one-alone p l q r e t u =
+          let y = has-yes q r u in
+          let z : none ≡ some (view (y .0)) = ap (Option·map view) (sym (has-no-find p l t)) ∙ e ∙ ap (Option·map view) (y .1) in
+          let w : true ≡ false = cc in true≢false w

@@ -1,5 +1,5 @@
 -- Laws of tests: what a test says of its parts, and how a test is made true or false.
-use mathlib.Core.Path.{_≡_, refl, sym, _∙_}
+use mathlib.Core.Path.{_≡_, refl, sym, _∙_, ap}
 use mathlib.Core.Logic.{_⊎_, inl, inr}
 use mathlib.Core.Bool.{Bool, true, false, not, cond, true≢false, false≢true}
 use Prim.Native.Nat.{ℕ, zero, suc, _+_, _≤_, _<_}
@@ -58,6 +58,10 @@ pub and-no-right : (a b : Bool) → b ≡ false → (a and b) ≡ false
 unfolding _and_
 and-no-right true b e = e
 and-no-right false b e = refl
+
+-- two tests that agree where a third holds
+pub and-agree : (a b c : Bool) → (c ≡ true → a ≡ b) → (a and c) ≡ (b and c)
+and-agree a b c f = split c (λ t. ap (λ z. z and c) (f t)) (λ t. and-no-right a c t ∙ sym (and-no-right b c t))
 
 pub and-true : (a : Bool) → (a and true) ≡ a
 unfolding _and_

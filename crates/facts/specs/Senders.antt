@@ -11,19 +11,18 @@ use Rattle.laws.specs.Tests.Laws.{split, clash, and-left, and-right, and-both, 
 use Rattle.laws.specs.Lists.{same, place, nth, has, apart, keep, All}
 use Rattle.laws.specs.Lists.Same.{same-no}
 use Rattle.laws.specs.Lists.Each.{all-imply, all-each, getD-inside}
-use Rattle.laws.specs.Lists.Search.{has-yes, has-no-place, has-no-all, all-has-no, find-passes, place-positive, place-length, nth-place, place-append-first, place-append-second, place-append-only}
+use Rattle.laws.specs.Lists.Search.{has-yes, has-no-place, has-no-all, all-has-no, find-passes, place-positive, place-length, nth-place, place-append-first, place-append-second, place-append-only, has-map-each, place-map-each}
 use Rattle.laws.specs.Lists.Apart.{apart-place}
 use Rattle.laws.specs.Lists.Keep.{keep-agree}
 use Rattle.paper.specs.Layout.{Bytes, Block, sender, sendersSlot, pair, withSendersSlot}
 use Rattle.paper.specs.Book.{dayBlock, used, isSender, isSeries, numbered, isSenderBlockOf, slotOf, isSeriesOf, ownSeries}
-use Rattle.paper.specs.Sound.{partiesOf, ownerSound, seriesSound, usedSound, sameSender}
+use Rattle.paper.specs.Sound.{partiesOf, usedSound, sameSender}
 use Rattle.paper.specs.Rules.{isNew}
 use Rattle.paper.specs.Acceptance.{slotFor, senderKept, renewed, fresh, placed, remarked, usedAfter}
-use Rattle.facts.specs.Book.{no-block-sender, sender-block-eic, sender-block-yes, sender-block-no, sender-block-own, sender-block-series, series-of-series, series-of-slot, all-numbered}
-use Rattle.promises.specs.Laws.{place-map-each, has-map-each}
-use Rattle.promises.specs.Facts.{Sound, used-series}
-use Rattle.promises.specs.Remarking.{sender-block-remarked}
-use Rattle.promises.specs.Renewal.{Shape, series-with-senders-slot, sender-kept-sender, sender-kept-is-sender, sender-block-renewed, by-fresh}
+use Rattle.facts.specs.Book.{no-block-sender, series-kind, sender-block-eic, sender-block-yes, sender-block-no, sender-block-own, sender-block-series, series-of-series, series-of-slot, all-numbered}
+use Rattle.facts.specs.Sound.{Sound, used-series, series-owner}
+use Rattle.facts.specs.Renewal.{Shape, series-with-senders-slot, sender-kept-sender, sender-kept-is-sender, sender-block-renewed, by-fresh}
+use Rattle.facts.specs.Remarking.{sender-block-remarked}
 
 -- ---- a slot and its sender
 
@@ -92,10 +91,6 @@ pub record Owner (us : List Block) (x : Block) : Type 0 where
 unfoldable pub Owned : List Block → Type 0
 Owned us = All (λ x. isSeries x ≡ true → Owner us x) us
 
-owner-of : (d : Block) (us : List Block) (x : Block) → seriesSound d us x ≡ true → ownerSound us x ≡ true
-unfolding seriesSound
-owner-of d us x e = and-right _ _ (and-left _ _ e)
-
 numbered-known : (us : List Block) (i : ℕ) → isSender (numbered us i) ≡ true → has (isSenderBlockOf (sender (numbered us i))) us ≡ true
 numbered-known us i s = split (has (isSenderBlockOf (sender (numbered us i))) us) (λ u. u)
     (λ u. clash (sender-block-own (numbered us i) s)
@@ -104,18 +99,17 @@ numbered-known us i s = split (has (isSenderBlockOf (sender (numbered us i))) us
     (λ z q r. q) us (has-no-all _ us u)) s))
 
 pub owned : (book : Bytes) → Sound book → Owned (used book)
-unfolding Owned ownerSound
+unfolding Owned
 owned book s = all-imply (λ x. usedSound (dayBlock book) (used book) x ≡ true) (λ x. isSeries x ≡ true → Owner (used book) x) one (used book) (s .each)
   where
     one : (x : Block) → usedSound (dayBlock book) (used book) x ≡ true → isSeries x ≡ true → Owner (used book) x
     one x q r =
-        let o : (isSender (numbered (used book) (sendersSlot x)) and partiesOf (sender (numbered (used book) (sendersSlot x))) (pair x)) ≡ true = owner-of
-        (dayBlock book) (used book) x (used-series _ _ x q r) in
+        let o = series-owner (dayBlock book) (used book) x (used-series _ _ x q r) in
         record {
           eic = sender (numbered (used book) (sendersSlot x));
-          known = numbered-known (used book) (sendersSlot x) (and-left _ _ o);
-          slot = slot-of-numbered (used book) (s .senders) (sendersSlot x) (and-left _ _ o);
-          party = and-right _ _ o;
+          known = numbered-known (used book) (sendersSlot x) (o .0);
+          slot = slot-of-numbered (used book) (s .senders) (sendersSlot x) (o .0);
+          party = o .1;
         }
 
 owned-range : (us : List Block) → Owned us → All (λ x. isSeries x ≡ true → (zero < sendersSlot x) × (sendersSlot x ≤ length us)) us

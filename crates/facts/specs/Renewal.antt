@@ -4,40 +4,41 @@ use mathlib.Core.Path.{_≡_, refl, sym, ap, ap₂, _∙_}
 use mathlib.Core.Bool.{true, false, cond}
 use mathlib.Core.Option.{Option, none, some}
 use mathlib.Core.List.{List, [], _∷_, map}
-use Prim.Native.Nat.{ℕ, suc, _≤_, _<_}
+use Prim.Native.Nat.{ℕ, suc, _+_, _≤_, _<_}
 use native.Mathlib.Omega.{arith}
-use lib.ListN.{length}
+use lib.ListN.{length, length-append, length-map}
 use Rattle.laws.specs.Tests.{_and_, is}
 use Rattle.laws.specs.Tests.Laws.{split, clash}
 use Rattle.laws.specs.Lists.{same, find, has, keep, All}
 use Rattle.laws.specs.Lists.Each.{all-imply, all-both, all-append, all-keep, all-kept, all-find, all-map}
-use Rattle.laws.specs.Lists.Search.{find-passes, place-length}
+use Rattle.laws.specs.Lists.Search.{has-no-place, find-passes, place-length}
+use Rattle.laws.specs.Lists.Count.{count-keep}
+use Rattle.laws.specs.Lists.Keep.{until-count}
 use Rattle.paper.specs.Layout.{Bytes, Block, sender, sendersSlot, pair, withSendersSlot}
-use Rattle.paper.specs.Book.{used, isSender, isSeries, isSenderBlockOf, slotOf, isSeriesOf, ownSeries, pairIs}
+use Rattle.paper.specs.Book.{slots, isFree, used, freeSlots, isSender, isSeries, numbered, pairIs, isSenderBlockOf, slotOf, isSeriesOf, ownSender, ownSeries}
 use Rattle.paper.specs.Message.{headOf, seriesOf}
-use Rattle.paper.specs.Rules.{isNew}
+use Rattle.paper.specs.Rules.{isNew, newBlocks}
 use Rattle.paper.specs.Acceptance.{slotFor, senderKept, replaced, renewed, fresh, placed}
 use Rattle.facts.specs.Layout.{with-senders-slot-length, with-nets-length, senders-slot-with-senders-slot, kind-with-senders-slot, pair-with-senders-slot, kind-with-nets, sender-with-nets}
-use Rattle.facts.specs.Book.{sender-kind, kind-sender, sender-not-series, sender-block-sender, sender-block-eic, sender-block-series, series-of-series, series-of-slot, series-of-other, used-lengths}
-use Rattle.promises.specs.Facts.{used-few, head-length, series-lengths, Accepts}
-use Rattle.promises.specs.Pairs.{pair-is-yes, Keeps}
+use Rattle.facts.specs.Book.{no-block-sender, sender-kind, kind-sender, sender-not-series, sender-block-sender, sender-block-eic, sender-block-series, series-of-series, series-of-slot, series-of-other}
+use Rattle.facts.specs.Sound.{used-few}
+use Rattle.facts.specs.Verdict.{head-length, series-lengths, Accepts}
+use Rattle.facts.specs.Pairs.{pair-is-yes, Keeps}
 
 -- what is used here of an accepted message
 pub record Shape (us : List Block) (h : Block) (series : List Block) : Type 0 where
-  pub lengths : All (λ b. length b ≡ 512) us
   pub head-whole : length h ≡ 512
   pub head-sender : isSender h ≡ true
   pub series-whole : All (λ y. length y ≡ 512) series
   pub series-kind : All (λ y. isSeries y ≡ true) series
   pub fits : slotFor us (sender h) < 65536
 
-slot-for-few : (us : List Block) (e : Bytes) → slotFor us e ≤ suc (length us)
+pub slot-for-few : (us : List Block) (e : Bytes) → slotFor us e ≤ suc (length us)
 unfolding slotFor slotOf
 slot-for-few us e = split (has (isSenderBlockOf e) us) (λ t. rw t (omega (arith, place-length (isSenderBlockOf e) us))) (λ t. rw t (omega arith))
 
 pub shape : (book message : Bytes) → Accepts book message → Shape (used book) (headOf message) (seriesOf message)
 shape book message a = record {
-  lengths = used-lengths book;
   head-whole = head-length message (a .right);
   head-sender = a .right .head-kind;
   series-whole = series-lengths message;
@@ -172,7 +173,33 @@ module _ (us : List Block) (h : Block) (series : List Block) (c : Shape us h ser
   fresh-slots = by-fresh (λ z. isSeries z ≡ true → sendersSlot z ≡ slot) (λ y. length y ≡ 512) (c .series-whole) (λ t s. clash s sender-kept-no-series)
       (λ y l n s. adopted y l)
 
-  pub placed-lengths : All (λ z. length z ≡ 512) (placed us h series)
-  placed-lengths =
-      by-origin (λ z. length z ≡ 512) (λ z. length z ≡ 512) (λ z. length z ≡ 512) (c .lengths) (c .series-whole)
+  pub placed-lengths : All (λ z. length z ≡ 512) us → All (λ z. length z ≡ 512) (placed us h series)
+  placed-lengths l =
+      by-origin (λ z. length z ≡ 512) (λ z. length z ≡ 512) (λ z. length z ≡ 512) l (c .series-whole)
       renewed-length sender-kept-length (λ y e. with-senders-slot-length slot y ∙ e)
+
+-- ---- how many there are
+
+pub placed-length : (us : List Block) (h : Block) (series : List Block) → length (placed us h series) ≡ length us + length (fresh us h series)
+unfolding placed
+placed-length us h series =
+    length-append (map (renewed (slotFor us (sender h)) h series) us) (fresh us h series) ∙ ap (λ k. k + length (fresh us h series)) (length-map us _)
+
+fresh-few : (us : List Block) (h : Block) (series : List Block) → length (fresh us h series) ≤ newBlocks (ownSender us (sender h)) (ownSeries us (sender h)) series
+unfolding fresh newBlocks ownSender slotOf numbered
+fresh-few us h series =
+    let k = length-map (keep (isNew (ownSeries us (sender h))) series) (withSendersSlot (slotFor us (sender h))) in
+    let l = count-keep (isNew (ownSeries us (sender h))) series in
+    split (has (isSenderBlockOf (sender h)) us)
+    (λ t. rw t (omega arith))
+    (λ t. rw (t, has-no-place _ us t, no-block-sender) (omega arith))
+
+pub placed-fits : (book message : Bytes) → Accepts book message → length (placed (used book) (headOf message) (seriesOf message)) ≤ length (slots book)
+unfolding used freeSlots
+placed-fits book message a = omega (
+  arith,
+  a .fits,
+  placed-length (used book) (headOf message) (seriesOf message),
+  fresh-few (used book) (headOf message) (seriesOf message),
+  until-count isFree (slots book),
+)

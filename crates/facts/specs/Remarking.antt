@@ -9,21 +9,16 @@ use lib.ListN.{length}
 use Rattle.laws.specs.Tests.{_and_, is}
 use Rattle.laws.specs.Tests.Laws.{split, and-no-left}
 use Rattle.laws.specs.Lists.{same, find}
-use Rattle.laws.specs.Lists.Search.{find-map}
+use Rattle.laws.specs.Lists.Search.{find-map, place-map-each}
 use Rattle.laws.specs.Bytes.Laws.{little-length}
-use Rattle.paper.specs.Layout.{Bytes, Block, sendersSlot, pair, quantities, withMark}
+use Rattle.paper.specs.Layout.{Bytes, Block, kind, sendersSlot, pair, quantities, withMark}
 use Rattle.paper.specs.Book.{isSender, isSeries, isSenderBlockOf, isSeriesOfPair}
 use Rattle.paper.specs.Marks.{isCounterpart, counterpart, counterpartSlot, markOf, markIn}
 use Rattle.paper.specs.Acceptance.{touched, remarked}
 use Rattle.facts.specs.Layout.{with-mark-length, kind-with-mark, sender-with-mark, senders-slot-with-mark, pair-with-mark, quantities-with-mark, Alike, alike-refl, alike-mark}
-use Rattle.promises.specs.Laws.{place-map-each}
-use Rattle.promises.specs.Pairs.{viewFound, map-view, Keeps, of-pair-kept, counterpart-kept}
+use Rattle.facts.specs.Pairs.{viewFound, map-view, Keeps, of-pair-kept, counterpart-kept}
 
 -- ---- what a mark leaves
-
-series-with-mark : (m : Bytes) (b : Block) → isSeries (withMark m b) ≡ isSeries b
-unfolding isSeries
-series-with-mark m b = ap (λ z. is z 2) (kind-with-mark m b)
 
 mark-of-length : (n : ℕ) (a : Bytes) (o : Option Bytes) (slot : ℕ) → length (markOf n a o slot) ≡ 4
 unfolding markOf
@@ -55,8 +50,12 @@ module _ (n slot : ℕ) (l : List Block) where
   alike-remarked b = split (touched slot l b) (λ t. rw (remarked-touched b t) (alike-mark _ b (mark-in-length n l b)))
       (λ t. rw (remarked-untouched b t) (alike-refl b))
 
+  pub kind-remarked : (b : Block) → kind (again b) ≡ kind b
+  kind-remarked b = split (touched slot l b) (λ t. rw (remarked-touched b t) (kind-with-mark _ b)) (λ t. rw (remarked-untouched b t))
+
   pub series-remarked : (b : Block) → isSeries (again b) ≡ isSeries b
-  series-remarked b = split (touched slot l b) (λ t. rw (remarked-touched b t) (series-with-mark _ b)) (λ t. rw (remarked-untouched b t))
+  unfolding isSeries
+  series-remarked b = ap (λ z. is z 2) (kind-remarked b)
 
   pub senders-slot-remarked : (b : Block) → sendersSlot (again b) ≡ sendersSlot b
   senders-slot-remarked b = split (touched slot l b) (λ t. rw (remarked-touched b t) (senders-slot-with-mark _ b)) (λ t. rw (remarked-untouched b t))

@@ -1,34 +1,31 @@
--- What soundness, a verdict of 0, an accepted clock move and an accepted opening say, as records: the only door from the tests to the theorems.
--- A sound book's own record, Sound, stands in the facts.
+-- What rule 2 and a verdict of 0 say, as records: whoever needs a clause takes it here by name, and no other file counts the rules that were passed.
 use mathlib.Core.Path.{_≡_, refl, sym, _∙_}
 use mathlib.Core.Bool.{Bool, true, false}
 use mathlib.Core.List.{List, [], _∷_, _++_}
-use Prim.Native.Nat.{ℕ, suc, _+_, _-_, _/_, _%_, _≤_, _<_}
+use Prim.Native.Nat.{ℕ, suc, _+_, _/_, _%_, _≤_, _<_}
 use native.Mathlib.Omega.{arith}
-use lib.ListN.{length, drop, replicate, length-append, length-drop, length-replicate}
+use lib.ListN.{length, drop, length-drop}
 use lib.Seq.{length-take-le}
-use Rattle.laws.specs.Tests.{_and_, _or_, neg, is, less}
-use Rattle.laws.specs.Tests.Laws.{split, clash, and-left, and-right, and-both, and-no, or-left, or-right, or-no, neg-no, neg-true, is-yes, is-equal, less-no, less-true, upto-yes, upto-true}
+use Rattle.laws.specs.Tests.{_and_, _or_, neg, is}
+use Rattle.laws.specs.Tests.Laws.{split, clash, and-left, and-right, and-both, and-no, or-left, or-right, or-no, neg-no, neg-true, is-yes, less-no, less-true, upto-yes, upto-true}
 use Rattle.laws.specs.Lists.{same, has, apart, All}
 use Rattle.laws.specs.Lists.Each.{all-imply, all-both, all-append-left, all-append-right, every-all, all-every}
 use Rattle.laws.specs.Lists.Search.{has-no-all}
-use Rattle.laws.specs.Bytes.Laws.{little-length}
+use Rattle.laws.specs.Bytes.{number}
 use Rattle.laws.specs.Cut.Laws.{cut-length, cut-widths}
 use Rattle.laws.specs.Order.Laws.{first-left, first-right, along-all}
 use Rattle.paper.specs.declared.Verdict.{Verdict}
-use Rattle.paper.specs.Check.{checkRight}
-use Rattle.paper.specs.Layout.{Bytes, Block, zeros, nOf, clockPlus10080, dayOfBook, area, receiver, version, idOf, seriesCount, sender, dayOfMessage, businessType, contractType, inArea, outArea, inParty, outParty, pair, agreement, quantity, senderZerosInMessage, withClock}
-use Rattle.paper.specs.Ranges.{wholeBlocks, clockAllowed, versionAllowed}
+use Rattle.paper.specs.Layout.{Bytes, Block, zeros, nOf, dayOfBook, area, receiver, version, idOf, seriesCount, sender, dayOfMessage, businessType, contractType, sendersSlot, inArea, outArea, inParty, outParty, pair, agreement, quantity, senderZerosInMessage, seriesZerosInMessage}
+use Rattle.paper.specs.Ranges.{wholeBlocks, versionAllowed}
 use Rattle.paper.specs.Ids.{idWellFormed}
 use Rattle.paper.specs.Eic.{eicValid}
-use Rattle.paper.specs.Book.{dayBlock, used, freeSlots, isSender, isSeries, ownSender, ownSeries, idIs, pairIs}
-use Rattle.paper.specs.Sound.{daySound, partiesOf, sound}
+use Rattle.paper.specs.Book.{dayBlock, used, freeSlots, isSender, isSeries, idIs, pairIs, isSeriesOf, ownSender, ownSeries}
+use Rattle.paper.specs.Sound.{partiesOf, sound}
 use Rattle.paper.specs.Message.{headOf, seriesOf, headRight, seriesRight, messageRight, rule2}
-use Rattle.paper.specs.Rules.{fine, numberOf, _then_, broken, overPositions, rule1, rule3, rule4, rule5, idOrVersionBroken, rule6, withOtherPair, withOtherId, rule7, rule8, rule9, rule10, rule12, rule13, closed, rule14, seriesVersion, rule15, absent, rule16, newBlocks, rule17, storedOf, quantityVerdict, closedVerdict, formVerdict, valuesVerdict, seriesVerdict, eachSeries, headVerdict, lastVerdict, judge, verdict}
-use Rattle.paper.specs.Opening.{Opening, dayBlockOf, openingAllowed, openNumber, opened}
-use Rattle.paper.specs.Clock.{dayState, advanced, clockAnswer, clockMoved}
-use Rattle.facts.specs.Check.{sealed-length, sealed-right}
-pub use Rattle.facts.specs.Sound.{Sound, sound-says, is-sound, day-n, day-block-length, used-few, used-sender, used-series, used-other, used-kind}
+use Rattle.paper.specs.Rules.{fine, numberOf, _then_, broken, overPositions, rule1, rule3, rule4, rule5, idOrVersionBroken, rule6, withOtherPair, withOtherId, rule7, rule8, rule9, rule10, rule12, rule13, storedOf, closed, rule14, seriesVersion, rule15, absent, rule16, newBlocks, rule17, headVerdict, formVerdict, quantityVerdict, closedVerdict, valuesVerdict, seriesVerdict, eachSeries, lastVerdict, judge, verdict}
+use Rattle.facts.specs.Layout.{value-zeros}
+use Rattle.facts.specs.Book.{series-of-yes}
+use Rattle.facts.specs.Sound.{Sound, sound-says}
 
 -- ---- verdicts
 
@@ -62,9 +59,15 @@ pub record Message (message : Bytes) : Type 0 where
   pub head-count : seriesCount (headOf message) ≡ length (seriesOf message)
   pub head-zeros : senderZerosInMessage (headOf message) ≡ true
   pub series-kinds : All (λ y. isSeries y ≡ true) (seriesOf message)
+  -- a message names no sender's slot
+  pub series-slots : All (λ y. isSeriesOf 0 y ≡ true) (seriesOf message)
   pub series-n : All (λ y. nOf y ≡ nOf (headOf message)) (seriesOf message)
 
-message-says : (message : Bytes) → messageRight message ≡ true → Message message
+no-slot : (y : Block) → seriesZerosInMessage y ≡ true → sendersSlot y ≡ 0
+unfolding seriesZerosInMessage sendersSlot number
+no-slot y e = value-zeros _ (and-left _ _ e)
+
+pub message-says : (message : Bytes) → messageRight message ≡ true → Message message
 unfolding messageRight wholeBlocks headRight seriesRight
 message-says message s =
     let s1 = and-left _ _ s in
@@ -79,6 +82,7 @@ message-says message s =
       head-count = is-yes _ _ (and-right _ _ (and-left _ _ h));
       head-zeros = and-right _ _ h;
       series-kinds = all-imply _ _ (λ y q. and-left _ _ (and-left _ _ q)) (seriesOf message) each;
+      series-slots = all-imply _ _ (λ y q. series-of-yes 0 y (and-left _ _ (and-left _ _ q)) (no-slot y (and-right _ _ (and-left _ _ q)))) (seriesOf message) each;
       series-n = all-imply _ _ (λ y q. is-yes _ _ (and-right _ _ q)) (seriesOf message) each;
     }
 
@@ -268,79 +272,4 @@ accepts book message e =
       present = all-imply (λ x. neg (has (pairIs (pair x)) (seriesOf message)) ≡ false) (λ x. has (pairIs (pair x)) (seriesOf message) ≡ true) (λ x q. neg-no _ q)
           (ownSeries (used book) (sender (headOf message))) (has-no-all _ _ (passed _ 15 0 0 (then-left _ _ j16)));
       fits = less-no _ _ (passed _ 16 0 0 (then-right _ _ j16));
-    }
-
--- ---- an accepted clock move
-
-pub record Moves (book : Bytes) (minute : ℕ) : Type 0 where
-  pub was : Sound book
-  pub later : clockPlus10080 (dayBlock book) ≤ minute
-  pub most : minute ≤ 11580
-  pub result : clockMoved book minute ≡ withClock minute (dayBlock book) ++ drop 512 book
-
-clock-range : (book : Bytes) (minute : ℕ) → sound book ≡ true → (clockAnswer book minute) .number ≡ 0 → (less minute (clockPlus10080 (dayBlock book)) or neg
-    (clockAllowed minute)) ≡ false
-unfolding clockAnswer advanced dayState
-clock-range book minute s e = split (less minute (clockPlus10080 (dayBlock book)) or neg (clockAllowed minute))
-    (λ t. absurd (let z : _≡_ {A = ℕ} 22 0 = rw (s, t) at e in omega arith)) (λ t. t)
-
-clock-sound : (book : Bytes) (minute : ℕ) → sound book ≡ false → (clockAnswer book minute) .number ≡ 0 → ⊥
-unfolding clockAnswer
-clock-sound book minute s e = let z : _≡_ {A = ℕ} 1 0 = rw s at e in omega arith
-
-pub moves : (book : Bytes) (minute : ℕ) → (clockAnswer book minute) .number ≡ 0 → Moves book minute
-unfolding clockMoved clockAllowed
-moves book minute e = split (sound book)
-    (λ s.
-    let r = clock-range book minute s e in
-    record {
-      was = sound-says book s;
-      later = less-no _ _ (or-left _ _ r);
-      most = upto-yes _ _ (neg-no _ (or-right _ _ r));
-      result = rw (is-equal _ _ e);
-    })
-    (λ s. absurd (clock-sound book minute s e))
-
--- ---- an accepted opening
-
-pub record Opens (book : Bytes) (o : Opening) : Type 0 where
-  pub whole : length book % 512 ≡ 0
-  pub least : 2 ≤ length book / 512
-  pub most : length book / 512 ≤ 1001
-  pub day-length : length (dayBlockOf o) ≡ 512
-  pub check : checkRight (dayBlockOf o) ≡ true
-  pub day : daySound (dayBlockOf o) ≡ true
-  pub result : opened book o ≡ dayBlockOf o ++ replicate (length book - 512) 0
-
-day-block-of-length : (o : Opening) → openingAllowed o ≡ true → length (dayBlockOf o) ≡ 512
-unfolding openingAllowed dayBlockOf
-day-block-of-length o e =
-    let l1 : length (o .day) ≡ 8 = is-yes _ _ (and-left _ _ (and-left _ _ (and-left _ _ (and-left _ _ e)))) in
-    let l2 : length (o .area) ≡ 16 = is-yes _ _ (and-right _ _ (and-left _ _ (and-left _ _ (and-left _ _ e)))) in
-    let l3 : length (o .receiver) ≡ 16 = is-yes _ _ (and-right _ _ (and-left _ _ (and-left _ _ e))) in
-    sealed-length _ ∙ simp (length-append, length-replicate, little-length) (omega arith)
-
-day-block-of-right : (o : Opening) → length (dayBlockOf o) ≡ 512 → checkRight (dayBlockOf o) ≡ true
-unfolding dayBlockOf
-day-block-of-right o e = sealed-right _ (sym (sealed-length _) ∙ e)
-
-opening-passed : (book : Bytes) (o : Opening) → openNumber book o ≡ 0 → (wholeBlocks 2 1001 book ≡ true) × (openingAllowed o ≡ true)
-unfolding openNumber neg
-opening-passed book o e = split (wholeBlocks 2 1001 book)
-    (λ t. split (openingAllowed o) (λ u. (t, u)) (λ u. absurd (let z : _≡_ {A = ℕ} 21 0 = rw (t, u) at e in omega arith)))
-    (λ t. absurd (let z : _≡_ {A = ℕ} 20 0 = rw t at e in omega arith))
-
-pub opens : (book : Bytes) (o : Opening) → openNumber book o ≡ 0 → Opens book o
-unfolding wholeBlocks opened openingAllowed
-opens book o e =
-    let q = opening-passed book o e in
-    let l : length (dayBlockOf o) ≡ 512 = day-block-of-length o (q .1) in
-    record {
-      whole = is-yes _ _ (and-left _ _ (and-left _ _ (q .0)));
-      least = upto-yes _ _ (and-right _ _ (and-left _ _ (q .0)));
-      most = upto-yes _ _ (and-right _ _ (q .0));
-      day-length = l;
-      check = day-block-of-right o l;
-      day = and-right _ _ (q .1);
-      result = rw (is-equal _ _ e);
     }
