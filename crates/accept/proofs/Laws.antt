@@ -6,7 +6,6 @@ pub mod Laying
 pub mod Adding
 pub mod InTurn
 pub mod Renewing
-pub mod Stored
 pub mod Touching
 pub mod Phases
 pub mod Parts

@@ -1,6 +1,4 @@
 -- What the code of an acceptance relies on and does step by step, and that a verdict of 0 gives it.
 pub mod Fits
-pub mod OwnSlot
 pub mod Passed
-pub mod Room
 pub mod Steps

@@ -12,7 +12,7 @@ use Rattle.paper.specs.Layout.{Bytes, nOf}
 use Rattle.paper.specs.Book.{dayBlock, slots, isFree, used}
 use Rattle.paper.specs.Sound.{sound}
 use Rattle.paper.specs.PlainRun.{markTrue, netsTrue, plainRun}
-use Rattle.facts.specs.Sound.{sound-says, day-says}
+use Rattle.facts.specs.Sound.{sound-says, day-n}
 
 -- ---- a sound book
 
@@ -21,7 +21,7 @@ module _ (book : Bytes) (e : sound book ≡ true) where
   sound-length = let h : length book / 512 ≤ 1001 = sound-says book e .most in omega arith
 
   pub sound-n : nOf (dayBlock book) ≤ 100
-  sound-n = day-says (dayBlock book) (sound-says book e .day) .n-most
+  sound-n = day-n (dayBlock book) (sound-says book e .day)
 
 -- ---- the used slots
 

@@ -1,24 +1,24 @@
 -- The new blocks: the sender's, where it has no slot yet, then the series that have no place among the sender's stored ones.
 use mathlib.Core.Path.{_≡_, refl, sym, ap, ap₂, _∙_}
-use mathlib.Core.Bool.{Bool, false}
+use mathlib.Core.Bool.{Bool}
 use mathlib.Core.List.{List, [], _∷_, _++_, map}
 use Prim.Native.Nat.{ℕ, zero, suc, _+_, _≤_, _<_}
 use native.Mathlib.Numerals.{add-one}
 use native.Mathlib.Omega.{arith}
 use lib.ListN.{length, take, getD, length-append}
 use lib.Seq.{take-suc, take-all}
-use Rattle.laws.specs.Tests.{_and_, neg, is}
+use Rattle.laws.specs.Tests.{neg, is}
 use Rattle.laws.specs.Tests.Laws.{split, is-yes, is-no, is-equal, is-other}
-use Rattle.laws.specs.Lists.{keep, has, place}
+use Rattle.laws.specs.Lists.{place, keep}
 use Rattle.laws.specs.Lists.Each.{map-append}
-use Rattle.laws.specs.Lists.Search.{has-keep-and, has-no-place, place-positive}
+use Rattle.laws.specs.Lists.Search.{has-keep-and, place-is-0}
 use Rattle.laws.specs.Lists.Keep.{keep-append}
 use Rattle.paper.specs.Layout.{Block, pair, withSendersSlot}
-use Rattle.paper.specs.Book.{isSeriesOf, pairIs}
+use Rattle.paper.specs.Book.{pairIs, isSeriesOf}
 use Rattle.paper.specs.Rules.{isNew}
 use Rattle.paper.specs.Acceptance.{senderKept}
-use Rattle.index.specs.declared.By.the-variants.{Pair}
 use Rattle.index.specs.Linked.{keyOf, ownWith, Found}
+use Rattle.index.specs.declared.By.the-variants.{Pair}
 use Rattle.accept.specs.Steps.{senderIfNew, addedAt, addedTo}
 
 -- ---- the sender's block
@@ -43,14 +43,9 @@ module _ (slot stored : ℕ) (y : Block) where
   unfolding addedAt
   added-no z = rw (is-other stored 0 z)
 
--- a place of 0 says that there is none
-pub no-place : (p : Block → Bool) (l : List Block) → is (place p l) 0 ≡ neg (has p l)
-unfolding neg
-no-place p l = split (has p l) (λ t. rw t (is-other _ _ (λ z. omega (arith, place-positive p l t)))) (λ t. rw t (is-equal _ _ (has-no-place p l t)))
-
 new-by-place : (known : ℕ) (us : List Block) (y : Block) → is (place (ownWith known Pair (keyOf Pair y)) us) 0 ≡ isNew (keep (isSeriesOf known) us) y
 unfolding isNew ownWith keyOf pairIs
-new-by-place known us y = no-place (ownWith known Pair (keyOf Pair y)) us ∙ ap neg (sym (has-keep-and (pairIs (pair y)) (isSeriesOf known) us))
+new-by-place known us y = place-is-0 (ownWith known Pair (keyOf Pair y)) us ∙ ap neg (sym (has-keep-and (pairIs (pair y)) (isSeriesOf known) us))
 
 -- ---- series in turn
 

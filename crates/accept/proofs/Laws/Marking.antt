@@ -10,16 +10,15 @@ use lib.ListN.{length, drop, getD, set, length-map, List·getD-map}
 use lib.Seq.{set-getD}
 use Rattle.laws.specs.Tests.{_and_, _or_, neg, is}
 use Rattle.laws.specs.Tests.Laws.{split, is-no}
-use Rattle.laws.specs.Lists.{same, find, has, place}
-use Rattle.laws.specs.Lists.Search.{find-map, has-map, place-map}
+use Rattle.laws.specs.Lists.{same, find, place, has}
+use Rattle.laws.specs.Lists.Search.{has-map, find-map, place-map}
 use Rattle.laws.specs.Loops.{placeFrom}
 use Rattle.laws.specs.InPlace.{done, done-seen}
-use Rattle.laws.specs.Bytes.Laws.{little-length}
 use Rattle.paper.specs.Layout.{Bytes, Block, kind, sendersSlot, pair, quantities, withMark}
 use Rattle.paper.specs.Book.{isSeries, pairIs, isSeriesOfPair}
-use Rattle.paper.specs.Marks.{isCounterpart, counterpart, counterpartSlot, markOf, markIn}
+use Rattle.paper.specs.Marks.{isCounterpart, counterpart, counterpartSlot, markIn}
 use Rattle.paper.specs.Acceptance.{touched, remarked}
-use Rattle.facts.specs.Layout.{kind-with-mark, senders-slot-with-mark, pair-with-mark, quantities-with-mark}
+use Rattle.facts.specs.Remarking.{kind-remarked, senders-slot-remarked, pair-remarked, quantities-remarked}
 use Rattle.index.specs.Linked.{bucket, seriesIn, Heads, Nexts, Links}
 use Rattle.accept.specs.Steps.{touchedBy, Other, Others}
 use Rattle.accept.proofs.Laws.Lent.{done-next}
@@ -59,15 +58,6 @@ unfolding markIn counterpart counterpartSlot
 mark-reads n l r y e =
     rw (found-view (sendersSlot y) (pair y) l, found-view (sendersSlot y) (pair y) r, place-view (sendersSlot y) (pair y) l, place-view (sendersSlot y) (pair y) r, e)
 
-mark-of-length : (n : ℕ) (a : Bytes) (o : Option Bytes) (slot : ℕ) → length (markOf n a o slot) ≡ 4
-unfolding markOf
-mark-of-length n a none slot = refl
-mark-of-length n a (some b) slot = omega (arith, little-length 2 slot)
-
-mark-in-length : (n : ℕ) (l : List Block) (x : Block) → length (markIn n l x) ≡ 4
-unfolding markIn
-mark-in-length n l x = mark-of-length n (quantities x) (Option·map quantities (counterpart l x)) (counterpartSlot l x)
-
 -- ---- what is touched
 
 isSeriesOfPairView : ℕ → Bytes → View → Bool
@@ -94,10 +84,8 @@ module _ (n slot : ℕ) where
   remarked-reads l r y e = rw (mark-reads n l r y e, has-reads slot (pair y) l r e)
 
   pub remarked-keeps : (l : List Block) (y : Block) → view (remarked n slot l y) ≡ view y
-  unfolding remarked view
-  remarked-keeps l y = split (touched slot l y)
-      (λ t. rw (t, kind-with-mark (markIn n l y) y, senders-slot-with-mark (markIn n l y) y, pair-with-mark (markIn n l y) y, quantities-with-mark (markIn n l y) y (mark-in-length n l y)))
-      (λ t. rw t)
+  unfolding view
+  remarked-keeps l y = rw (kind-remarked n slot l y, senders-slot-remarked n slot l y, pair-remarked n slot l y, quantities-remarked n slot l y)
 
   module _ (l : List Block) (number : ℕ) {r : Bool} where
     pub remarked-yes : (y : Block) {m : Bytes} → Other slot l number y → r ≡ true → r ≡ touchedBy slot number y → m ≡ markIn n l y → withMark m y ≡ remarked n slot l y

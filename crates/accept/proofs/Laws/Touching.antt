@@ -1,126 +1,56 @@
--- After an acceptance the sender's series are those of its message: it has all that were stored, and those not stored are added. So the other
--- side of a trade is told by its number in the message, which it had before: the blocks renewed and added are all the sender's.
-use mathlib.Core.Path.{_≡_, refl, sym, ap, _∙_}
-use mathlib.Core.Bool.{Bool, true, false, cond}
-use mathlib.Core.Logic.{_⊎_, inl, inr, ⊎-elim}
-use mathlib.Core.Option.{Option, none, some}
-use mathlib.Core.List.{List, [], _∷_, _++_, map}
+-- After an acceptance the sender's series are those of its message. So the other side of a trade is told by its number in the message, which it had
+-- before: a block renewed keeps its pair, and the blocks added are all the sender's.
+use mathlib.Core.Path.{_≡_, sym, ap, _∙_}
+use mathlib.Core.Bool.{true}
+use mathlib.Core.List.{List, [], _++_, map}
 use Prim.Native.Nat.{ℕ, _+_, _-_, _≤_, _<_}
 use native.Mathlib.Omega.{arith}
 use lib.ListN.{length, getD, length-append, length-map, List·getD-append}
 use lib.Seq.{getD-append-add}
-use Rattle.laws.specs.Tests.{_and_, _or_, neg, is, less}
-use Rattle.laws.specs.Tests.Laws.{split, clash, or-no, less-yes, less-no}
-use Rattle.laws.specs.Lists.{find, has, keep, place, All}
-use Rattle.laws.specs.Lists.Each.{all-imply, all-each, all-append, all-keep, all-map, all-find, all-getD-inside, getD-map}
-use Rattle.laws.specs.Lists.Search.{find-passes, has-yes, has-append, has-agree, has-map, has-keep-and}
-use Rattle.paper.specs.Layout.{Bytes, Block, sender, sendersSlot, pair, withSendersSlot}
-use Rattle.paper.specs.Book.{isSeries, isSenderBlockOf, isSeriesOf, ownSeries, pairIs, isSeriesOfPair}
-use Rattle.paper.specs.Rules.{isNew}
-use Rattle.paper.specs.Acceptance.{slotFor, senderKept, replaced, renewed, fresh, placed}
-use Rattle.facts.specs.Layout.{senders-slot-with-senders-slot}
-use Rattle.facts.specs.Book.{series-of-slot}
+use Rattle.laws.specs.Tests.{neg, is, less}
+use Rattle.laws.specs.Tests.Laws.{split, less-yes, less-no}
+use Rattle.laws.specs.Lists.{place, has}
+use Rattle.laws.specs.Lists.Each.{all-getD-inside, getD-map}
+use Rattle.laws.specs.Lists.Search.{place-is-not-0, has-viewed}
+use Rattle.paper.specs.Layout.{Bytes, Block, sender, sendersSlot, pair, quantities}
+use Rattle.paper.specs.Book.{isSeries, pairIs, isSeriesOfPair}
+use Rattle.paper.specs.Acceptance.{slotFor, renewed, fresh, placed}
+use Rattle.facts.specs.Layout.{quantities-with-senders-slot}
+use Rattle.facts.specs.Book.{series-kind}
+use Rattle.facts.specs.Pairs.{viewFound}
+use Rattle.facts.specs.Renewal.{Shape, slot-for-few, renewed-keeps, fresh-slots, placed-length}
+use Rattle.facts.specs.Stored.{held-own}
 use Rattle.accept.specs.Fits.{Placing}
 use Rattle.accept.specs.Steps.{Numbers, Other, Others}
-use Rattle.accept.proofs.Laws.Adding.{no-place}
-use Rattle.accept.proofs.Laws.Stored.{pair-is, slot-small, kept-other, kept-no-series, Right, right, told, stored}
-
-module _ (n many : ℕ) (us : List Block) (h : Block) (series : List Block) (p : Placing n many us h series) (q : Bytes) where
-  abbrev slot : ℕ
-  slot = slotFor us (sender h)
-
-  abbrev own : List Block
-  own = ownSeries us (sender h)
-
-  -- ---- a new block
-
-  no-sender : has (isSeriesOfPair slot q) (cond (has (isSenderBlockOf (sender h)) us) [] (senderKept h series ∷ [])) ≡ false
-  unfolding has
-  no-sender = split (has (isSenderBlockOf (sender h)) us) (λ t. rw t) (λ t. rw t (or-no _ _ (kept-no-series n many us h series p q) refl))
-
-  added : has (isSeriesOfPair slot q) (fresh us h series) ≡ has (pairIs q) (keep (isNew own) series)
-  unfolding fresh _or_
-  added =
-      has-append (isSeriesOfPair slot q) (cond (has (isSenderBlockOf (sender h)) us) [] (senderKept h series ∷ [])) (map (withSendersSlot slot) (keep (isNew own) series))
-      ∙ rw no-sender
-      (has-map (withSendersSlot slot) (isSeriesOfPair slot q) (keep (isNew own) series)
-      ∙ has-agree (λ y. isSeriesOfPair slot q (withSendersSlot slot y)) (pairIs q) (keep (isNew own) series)
-      (all-imply (Right n many us h series p) (λ y. isSeriesOfPair slot q (withSendersSlot slot y) ≡ pairIs q y) (told n many us h series p q) (keep (isNew own) series)
-      (all-keep (Right n many us h series p) (isNew own) series (right n many us h series p))))
-
-  -- ---- both
-
-  in-message : has (pairIs q) own ≡ true → has (pairIs q) series ≡ true
-  in-message t =
-      let x = has-yes (pairIs q) own t in
-      rw (pair-is q (x .0) (find-passes (pairIs q) own (x .0) (x .1))) at (all-find (λ x. has (pairIs (pair x)) series ≡ true) (pairIs q) own (x .0) (p .present) (x .1))
-
-  is-new : has (pairIs q) own ≡ false → (y : Block) → (isNew own y and pairIs q y) ≡ pairIs q y
-  unfolding isNew _and_ neg
-  is-new t y = split (pairIs q y) (λ u. rw (pair-is q y u, t)) (λ u. rw u (none (isNew own y)))
-    where
-      none : (b : Bool) → (b and false) ≡ false
-      none true = refl
-      none false = refl
-
-  pub sender-has : has (isSeriesOfPair slot q) (placed us h series) ≡ has (pairIs q) series
-  unfolding placed _or_
-  sender-has =
-      has-append (isSeriesOfPair slot q) (map (renewed slot h series) us) (fresh us h series) ∙ rw (stored n many us h series p q, added)
-      (split (has (pairIs q) own) (λ t. rw t (sym (in-message t)))
-      (λ t. rw t (has-keep-and (pairIs q) (isNew own) series ∙ has-agree (λ y. isNew own y and pairIs q y) (pairIs q) series (all-each _ (is-new t) series))))
-
--- ---- the blocks that are not the sender's
-
-has-place : (p : Block → Bool) (l : List Block) → neg (is (place p l) 0) ≡ has p l
-unfolding neg
-has-place p l = split (has p l) (λ t. rw (no-place p l, t)) (λ t. rw (no-place p l, t))
 
 module _ (n many : ℕ) (us : List Block) (h : Block) (series : List Block) (p : Placing n many us h series) where
   abbrev home : ℕ
   home = slotFor us (sender h)
 
-  unfoldable Own : Block → Type 0
-  Own y = isSeries y ≡ true → sendersSlot y ≡ home
+  shape : Shape us h series
+  shape = record {
+    head-whole = p .head-whole;
+    head-sender = p .head-kind;
+    series-whole = p .series-whole;
+    series-kind = p .series-kind;
+    fits = let f : many ≤ 1000 = p .few in omega (arith, slot-for-few us (sender h), p .room, placed-length us h series);
+  }
 
-  told-own : (y : Block) → length y ≡ 512 → Own (withSendersSlot home y)
-  unfolding Own
-  told-own y l s = senders-slot-with-senders-slot home y (slot-small n many us h series p) l
+  sender-has : (q : Bytes) → has (isSeriesOfPair home q) (placed us h series) ≡ has (pairIs q) series
+  unfolding viewFound
+  sender-has q = has-viewed quantities (isSeriesOfPair home q) (pairIs q) (placed us h series) series (held-own us h series shape (p .own) (p .present) quantities quantities-with-senders-slot q)
 
-  kept-own : Own (senderKept h series)
-  unfolding Own
-  kept-own s = clash s (kept-other n many us h series p)
-
-  replaced-own : (b : Block) (o : Option Block) → find (pairIs (pair b)) series ≡ o → isSeriesOf home b ≡ true → Own (replaced home b o)
-  unfolding replaced Own
-  replaced-own b none e t s = series-of-slot home b t
-  replaced-own b (some y) e t s = told-own y (all-find (λ y. length y ≡ 512) (pairIs (pair b)) series y (p .series-whole) e) s
-
-  renewed-own : (b : Block) → Own (renewed home h series b) ⊎ (renewed home h series b ≡ b)
-  unfolding renewed
-  renewed-own b = split (isSenderBlockOf (sender h) b)
-      (λ t. rw t (inl kept-own))
-      (λ t. split (isSeriesOf home b)
-      (λ u. rw (t, u) (inl (replaced-own b (find (pairIs (pair b)) series) refl u)))
-      (λ u. rw (t, u) (inr refl)))
-
-  fresh-own : All Own (fresh us h series)
-  unfolding fresh
-  fresh-own =
-      all-append Own (cond (has (isSenderBlockOf (sender h)) us) [] (senderKept h series ∷ [])) (map (withSendersSlot home) (keep (isNew (ownSeries us (sender h))) series))
-      (split (has (isSenderBlockOf (sender h)) us) (λ t. rw t tt) (λ t. rw t (kept-own, tt)))
-      (all-map Own (withSendersSlot home) (keep (isNew (ownSeries us (sender h))) series)
-      (all-imply (λ y. length y ≡ 512) (λ y. Own (withSendersSlot home y)) told-own (keep (isNew (ownSeries us (sender h))) series)
-      (all-keep (λ y. length y ≡ 512) (isNew (ownSeries us (sender h))) series (p .series-whole))))
-
-  -- the sender's own are passed over; another has its number
-  own-other : (l : List Block) (k : ℕ) (y : Block) → Own y → Other home l k y
-  unfolding Own Other
-  own-other l k y f s o = absurd (o (f s))
-
-  number-other : (b : Block) {k : ℕ} → k ≡ place (pairIs (pair b)) series → Other home (placed us h series) k b
+  -- a stored block has its number, and a new one is the sender's own
+  stored-other : (b : Block) {k : ℕ} → k ≡ place (pairIs (pair b)) series → Other home (placed us h series) k (renewed home h series b)
   unfolding Other
-  number-other b e s o = ap (λ k. neg (is k 0)) e ∙ has-place (pairIs (pair b)) series ∙ sym (sender-has n many us h series p (pair b))
+  stored-other b e s o =
+      let k = renewed-keeps us h series shape in
+      ap (λ k. neg (is k 0)) e ∙ place-is-not-0 (pairIs (pair b)) series ∙ sym (sender-has (pair b))
+      ∙ ap (λ q. has (isSeriesOfPair home q) (placed us h series)) (sym (k .pairs b (sym (k .series b) ∙ s)))
+
+  new-other : (l : List Block) (k : ℕ) (y : Block) → (isSeries y ≡ true → sendersSlot y ≡ home) → Other home l k y
+  unfolding Other
+  new-other l k y f s o = absurd (o (f s))
 
   module _ (k : ℕ) where
     abbrev first : List Block
@@ -145,7 +75,7 @@ module _ (n many : ℕ) (us : List Block) (h : Block) (series : List Block) (p :
   others numbers f k c = split (less k (length us))
       (λ t.
       let i : k < length us = less-yes k (length us) t in
-      rw (block-stored k i) (⊎-elim (own-other _ _ _) (λ e. rw e (number-other (getD us k []) (f k i))) (renewed-own (getD us k []))))
+      rw (block-stored k i) (stored-other (getD us k []) (f k i)))
       (λ t.
       let i : length us ≤ k = less-no k (length us) t in
-      rw (block-new k i) (own-other _ _ _ (all-getD-inside Own (fresh us h series) (k - length us) [] (inside k c i) fresh-own)))
+      rw (block-new k i) (new-other _ _ _ (all-getD-inside _ (fresh us h series) (k - length us) [] (inside k c i) (fresh-slots us h series shape))))
