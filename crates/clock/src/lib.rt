@@ -1,13 +1,11 @@
 // The clock of a day book, and the day's state that it hands back ("Other calls").
 ghost use mathlib.Core.Path.{_≡_};
-ghost use Rattle.paper.specs.Layout.{withClock};
 ghost use Rattle.paper.specs.Clock.{dayState, advanced, clockAnswer, clockMoved};
-use block::check::seal;
-use block::numbers::write_2;
 use field::part_of;
 use forms::ranges::clock_allowed;
 use layout::lead;
 use layout::n_of;
+use layout::write::write_clock;
 use paper::ClockAnswer;
 use paper::DayState;
 use paper::Minute;
@@ -42,14 +40,6 @@ pub fn advanced(day: DayState, minute: Minute) -> ClockAnswer
             clock: minute,
         },
     }
-}
-
-// The check is put right with the clock.
-fn write_clock(d: &mut [u8], minute: Minute)
-    ensures { λ _. ⌜ now (d .exit) ≡ withClock (minute .0) (now (d .entry)) ⌝ }
-{
-    write_2(d, 4, minute.0);
-    seal(d);
 }
 
 // On 1 there is no state to hand back.

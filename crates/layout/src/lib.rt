@@ -2,10 +2,12 @@
 // shorter too, and a number read of it counts the missing bytes as 0, as the definitions have it.
 ghost use mathlib.Core.Path.{_≡_};
 ghost use Prim.Native.Nat.{_<_, _≤_};
+ghost use lib.ListN.{length};
 ghost use Rattle.paper.specs.Layout.{kind, nOf, lead, clockPlus10080, dayOfBook, area, receiver, version, idOf, seriesCount, sender, dayOfMessage, nets, businessType, contractType, sendersSlot, inArea, outArea, inParty, outParty, pair, agreement, mark, state, first, partner, quantities, quantity, aboveN, dayZeros, senderZeros, senderZerosInMessage, seriesZerosInMessage};
 use block::numbers::byte_or_zero;
 use block::numbers::number_2;
 use block::numbers::number_4;
+use block::numbers::whole_4;
 use field::all_zero;
 use field::part_of;
 use paper::Minute;
@@ -186,6 +188,14 @@ pub fn quantity(b: &[u8], k: usize) -> u32
     ensures { λ r. ⌜ r ≡ quantity (now (b .entry)) k ⌝ }
 {
     number_4(b, 108 + 4 * k)
+}
+
+// The same of a block with all its entries: no entry asks for the block's length, and so several go in one step of the machine.
+pub fn whole_quantity(b: &[u8], k: usize) -> u32
+    requires { ⌜ (k < 100) × (508 ≤ length (now b)) ⌝ }
+    ensures { λ r. ⌜ r ≡ quantity (now (b .entry)) k ⌝ }
+{
+    whole_4(b, 108 + 4 * k)
 }
 
 // The bytes of the positions above n.

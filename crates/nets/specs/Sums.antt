@@ -1,11 +1,10 @@
 -- Sums known by their remainder by 2 to the 32: a net is wanted as a number of four bytes, and additions and differences keep remainders.
 use mathlib.Core.Path.{_≡_}
 use mathlib.Core.Bool.{cond}
-use mathlib.Core.List.{List, [], _++_}
-use Prim.Native.Nat.{ℕ, zero, suc, _+_, _-_, _%_, _<_}
+use mathlib.Core.List.{List}
+use Prim.Native.Nat.{ℕ, _+_, _-_, _%_, _<_}
 use lib.ListN.{getD}
 use Rattle.laws.specs.Lists.{same, total}
-use Rattle.laws.specs.Bytes.{little}
 use Rattle.paper.specs.Layout.{Bytes, Block, inParty, outParty, quantity}
 use Rattle.paper.specs.Book.{isSeriesOf}
 
@@ -31,8 +30,3 @@ ownShare e slot x k = cond (isSeriesOf slot x) (share e x k) 0
 -- what all blocks of l add
 unfoldable pub shares : (Block → ℕ → ℕ) → List Block → ℕ → ℕ
 shares s l k = total (λ x. s x k) l
-
--- the first k sums as bytes, four each
-unfoldable pub words : List ℕ → ℕ → Bytes
-words v zero = []
-words v (suc k) = words v k ++ little 4 (getD v k 0 % 4294967296)

@@ -3,19 +3,19 @@
 ghost use mathlib.Core.Path.{_≡_};
 ghost use Prim.Native.Nat.{_-_, _≤_};
 ghost use lib.ListN.{length};
-ghost use Rattle.laws.specs.Bytes.{written};
 ghost use Rattle.laws.specs.Cut.{cut};
-ghost use Rattle.paper.specs.Layout.{quantity};
+ghost use Rattle.paper.specs.Layout.{quantity, withNets};
 ghost use Rattle.paper.specs.Nets.{netsOf};
 ghost use Rattle.paper.specs.PlainRun.{netsTrue};
-ghost use Rattle.nets.specs.Sums.{Raised, boughtShare, soldShare, share, ownShare, shares, words};
-use block::numbers::write_4;
+ghost use Rattle.nets.specs.Sums.{Raised, boughtShare, soldShare, share, ownShare, shares};
+use block::check::seal;
 use field::same;
 use layout::in_party;
 use layout::nets;
 use layout::out_party;
 use layout::quantity;
 use layout::sender;
+use layout::write::write_entries;
 use paper::Slot;
 use slots::block_at;
 use slots::is_sender;
@@ -112,27 +112,16 @@ fn add_own(sums: &mut [u32], e: &[u8], slot: Slot, us: &[u8])
     }
 }
 
-// Four bytes each, one after another, at their place in a block or, to be compared, at the start of a buffer.
-fn put_words(s: &mut [u8], at: usize, v: &[u32])
-    requires { ⌜ (length (now v) ≡ 100) × (at ≤ 108) ⌝ }
-    ensures { λ _. ⌜ now (s .exit) ≡ written at (words (now (v .entry)) 100) (now (s .entry)) ⌝ }
-{
-    let mut k = 0;
-    while k < 100 {
-        write_4(s, at + 4 * k, v[k]);
-        k += 1;
-    }
-}
-
-// The nets of the sender e, from its message's series, into its block s, whose check is put right later. Below 2 to the 19 series
+// The nets of the sender e, from its message's series, into its block s, with the check put right. Below 2 to the 19 series
 // no sum is as great as the 2 to the 52 that the definition adds.
 pub fn write_nets(s: &mut [u8], e: &[u8], series: &[u8])
     requires { ⌜ length (now series) ≤ 268435456 ⌝ }
-    ensures { λ _. ⌜ now (s .exit) ≡ written 108 (netsOf (now (e .entry)) (cut 512 (now (series .entry)))) (now (s .entry)) ⌝ }
+    ensures { λ _. ⌜ now (s .exit) ≡ withNets (netsOf (now (e .entry)) (cut 512 (now (series .entry)))) (now (s .entry)) ⌝ }
 {
     let mut sums = [0u32; 100];
     add_all(&mut sums, e, series);
-    put_words(s, 108, &sums);
+    write_entries(s, &sums);
+    seal(s);
 }
 
 // A block that is no sender has no nets to be wrong.
@@ -146,7 +135,7 @@ pub fn nets_true(us: &[u8], s: &[u8]) -> bool
     let e = sender(s);
     let mut sums = [0u32; 100];
     add_own(&mut sums, e, slot_of(us, e), us);
-    let mut due = [0u8; 400];
-    put_words(&mut due, 0, &sums);
-    same(nets(s), &due)
+    let mut due = [0u8; 512];
+    write_entries(&mut due, &sums);
+    same(nets(s), nets(&due))
 }

@@ -1,19 +1,18 @@
 // Opening a day book in a lent buffer ("Other calls").
 ghost use mathlib.Core.Path.{_≡_};
 ghost use mathlib.Core.List.{_++_};
-ghost use Prim.Native.Nat.{_+_, _-_, _≤_};
-ghost use lib.ListN.{length, replicate, set};
-ghost use Rattle.laws.specs.Bytes.{written, little};
+ghost use Prim.Native.Nat.{_-_, _≤_};
+ghost use lib.ListN.{length, replicate};
 ghost use Rattle.paper.specs.Opening.{dayBlockOf, openingAllowed, openNumber, opened};
 ghost use Rattle.opening.specs.Sized.{Sized};
 use block::check::seal;
-use block::numbers::write_2;
 use eic::eic_valid_with;
 use eic::values;
 use field::day_well_formed;
 use forms::ranges::lead_allowed;
 use forms::ranges::n_allowed;
 use forms::ranges::whole_blocks;
+use layout::write::write_day_fields;
 
 // The parameters are judged themselves, before any block is made of them: a refusal writes nothing.
 fn opening_allowed(n: u8, lead: u16, day: &[u8], area: &[u8], receiver: &[u8]) -> bool
@@ -37,37 +36,12 @@ fn zero(s: &mut [u8])
     }
 }
 
-// A field of bytes, at its offset.
-fn write_field(s: &mut [u8], at: usize, v: &[u8])
-    requires { ⌜ at + length (now v) ≤ length (now s) ⌝ }
-    ensures { λ _. ⌜ now (s .exit) ≡ written at (now (v .entry)) (now (s .entry)) ⌝ }
-{
-    let mut i = 0;
-    while i < v.len() {
-        s[at + i] = v[i];
-        i += 1;
-    }
-}
-
-// The numbers in front: kind 3, n and lead.
-fn write_numbers(block: &mut [u8], n: u8, lead: u16)
-    requires { ⌜ 2 ≤ length (now block) ⌝ }
-    ensures { λ _. ⌜ now (block .exit) ≡ written 2 (little 2 lead) (set (set (now (block .entry)) 0 3) 1 n) ⌝ }
-{
-    block[0] = 3;
-    block[1] = n;
-    write_2(block, 2, lead);
-}
-
-// The day block of the layout's table, field by field. Clock −10,080 is kept as 0, as every byte is that is not written here.
+// The day block of the layout's table. Clock −10,080 is kept as 0, as every byte is that no parameter gives.
 fn write_day_block(block: &mut [u8], n: u8, lead: u16, day: &[u8], area: &[u8], receiver: &[u8])
     requires { ⌜ (length (now block) ≡ 512) × (now block ≡ replicate 512 0) × Sized (now day) (now area) (now receiver) ⌝ }
     ensures { λ _. ⌜ now (block .exit) ≡ dayBlockOf (record { n = n; lead = lead; day = now (day .entry); area = now (area .entry); receiver = now (receiver .entry) }) ⌝ }
 {
-    write_numbers(block, n, lead);
-    write_field(block, 8, day);
-    write_field(block, 24, area);
-    write_field(block, 40, receiver);
+    write_day_fields(block, n, lead, day, area, receiver);
     seal(block);
 }
 

@@ -7,6 +7,7 @@ use Rattle.laws.specs.Bytes.{written, little}
 use Rattle.paper.specs.Check.{sealed}
 use Rattle.paper.specs.Layout.{Bytes}
 use Rattle.paper.specs.Opening.{Opening, dayBlockOf}
+use Rattle.layout.specs.Written.{withFront, withDayFields}
 use Rattle.opening.specs.Sized.{Sized}
 use Rattle.opening.proofs.Laws.Bytes.{written-here, written-over}
 use Rattle.opening.proofs.Laws.DayBlock.{numbers, plain, day-block-plain}
@@ -41,6 +42,7 @@ module _ (o : Opening) (s : Sized (o .day) (o .area) (o .receiver)) where
           ∙ ap (λ x. front ++ (o .day ++ (replicate 8 0 ++ x))) (written-over (o .area) (replicate 472 0) (o .receiver) 16 0 (s .area-16))
           ∙ ap (λ x. front ++ (o .day ++ (replicate 8 0 ++ (o .area ++ x)))) (written-here (replicate 16 0) (replicate 456 0) (o .receiver) (s .receiver-16))
 
-  -- step by step, as the code does it
-  pub block-made : {b w x y z v : Bytes} → b ≡ replicate 512 0 → w ≡ written 2 (little 2 (o .lead)) (set (set b 0 3) 1 (o .n)) → x ≡ written 8 (o .day) w → y ≡ written 24 (o .area) x → z ≡ written 40 (o .receiver) y → v ≡ sealed z → v ≡ dayBlockOf o
-  block-made e f g h i j = j ∙ ap sealed (rw (i, h, g, f, e) block-written) ∙ sym (day-block-plain o)
+  -- as the code does it
+  pub block-made : {b w v : Bytes} → b ≡ replicate 512 0 → w ≡ withDayFields o b → v ≡ sealed w → v ≡ dayBlockOf o
+  unfolding withDayFields withFront
+  block-made e f g = g ∙ ap sealed (f ∙ ap (withDayFields o) e ∙ block-written) ∙ sym (day-block-plain o)
