@@ -1,52 +1,19 @@
 // Quantity text: 1 to 4 digits of megawatts, then optionally a point and 1 to 3 digits. Inside the desk quantities are kilowatts.
 ghost use mathlib.Core.Path.{_≡_};
-ghost use mathlib.Core.Bool.{true};
-ghost use Prim.Native.Nat.{_+_, _-_, _<_, _≤_};
-ghost use lib.ListN.{length, take, set};
-ghost use Rattle.laws.specs.Lists.{every};
+ghost use Prim.Native.Nat.{_<_, _≤_};
+ghost use lib.ListN.{length};
 ghost use Rattle.laws.specs.Bytes.{written};
-ghost use Rattle.paper.specs.Ids.{digit};
-ghost use Rattle.paper.specs.QuantityText.{leadingDigits, decimalFrom, readRefused, readAs, worth, pastPoint, pastWhole, unsignedRead, pastMinus, quantityRead};
-ghost use Rattle.paper.specs.QuantityText.{lastDigits, widthOf, decimal, quantityText, quantityPrinted, printedInto};
-use field::digit;
+ghost use Rattle.paper.specs.QuantityText.{readRefused, readAs, worth, pastPoint, pastWhole, unsignedRead, pastMinus, quantityRead};
+ghost use Rattle.paper.specs.QuantityText.{widthOf, decimal, quantityText, quantityPrinted, printedInto};
+use digits::decimal_from;
+use digits::leading_digits;
+use digits::places;
+use digits::put_byte;
+use digits::put_last_digits;
 use paper::QuantityPrinted;
 use paper::QuantityRead;
 
-// Hands back with the count that these bytes are digits: no later function tests them again.
-fn leading_digits(s: &[u8]) -> usize
-    ensures { λ r. ⌜ (r ≡ leadingDigits (now (s .entry))) × (r ≤ length (now (s .entry))) × (every digit (take r (now (s .entry))) ≡ true) ⌝ }
-{
-    let mut i = 0;
-    while i < s.len() {
-        if !digit(s[i]) {
-            return i;
-        }
-        i += 1;
-    }
-    i
-}
-
-// Only of a byte known to be a digit: taking 48, the digit 0, off it cannot wrap.
-fn digit_value(x: u8) -> u32
-    requires { ⌜ digit x ≡ true ⌝ }
-    ensures { λ r. ⌜ (r ≡ x - 48) × (r < 10) ⌝ }
-{
-    (x - 48) as u32
-}
-
-// At most four digits, so the number fits.
-fn decimal_from(s: &[u8]) -> u32
-    requires { ⌜ (length (now s) ≤ 4) × (every digit (now s) ≡ true) ⌝ }
-    ensures { λ r. ⌜ (r ≡ decimalFrom 0 (now (s .entry))) × (r < 10000) ⌝ }
-{
-    let mut a: u32 = 0;
-    let mut i = 0;
-    while i < s.len() {
-        a = 10 * a + digit_value(s[i]);
-        i += 1;
-    }
-    a
-}
+pub mod digits;
 
 // A refusal says no quantity.
 fn read_refused(number: u32) -> QuantityRead
@@ -83,7 +50,7 @@ fn worth(m: usize) -> u32
 
 // Nothing may follow the digits, and a fourth would be worth less than a kilowatt.
 fn past_point(w: u32, s: &[u8]) -> QuantityRead
-    requires { ⌜ w < 10000 ⌝ }
+    requires { ⌜ w < 100000 ⌝ }
     ensures { λ r. ⌜ r ≡ pastPoint w (now (s .entry)) ⌝ }
 {
     let m = leading_digits(s);
@@ -101,7 +68,7 @@ fn past_point(w: u32, s: &[u8]) -> QuantityRead
 
 // Whole megawatts need no point, 46; but a point must be followed by digits.
 fn past_whole(w: u32, s: &[u8]) -> QuantityRead
-    requires { ⌜ w < 10000 ⌝ }
+    requires { ⌜ w < 100000 ⌝ }
     ensures { λ r. ⌜ r ≡ pastWhole w (now (s .entry)) ⌝ }
 {
     if s.len() == 0 {
@@ -151,46 +118,11 @@ pub fn quantity_read(s: &[u8]) -> QuantityRead
     past_minus(unsigned_read(&s[1..]))
 }
 
-// A byte that would fall past the buffer's end is left out, so that printing has an answer for a buffer of any length.
-fn put_byte(x: u8, at: usize, i: usize, buffer: &mut [u8])
-    ensures { λ _. ⌜ now (buffer .exit) ≡ set (now (buffer .entry)) (at + i) x ⌝ }
-{
-    if buffer.len() <= at {
-        return;
-    }
-    if buffer.len() - at <= i {
-        return;
-    }
-    buffer[at + i] = x;
-}
-
-// From the last digit to the first: each is what is left of the number, modulo 10.
-fn put_last_digits(k: usize, x: u32, at: usize, buffer: &mut [u8])
-    ensures { λ _. ⌜ now (buffer .exit) ≡ written at (lastDigits k x) (now (buffer .entry)) ⌝ }
-{
-    let mut i = k;
-    let mut rest = x;
-    while 0 < i {
-        i -= 1;
-        put_byte(48 + (rest % 10) as u8, at, i, buffer);
-        rest /= 10;
-    }
-}
-
-// No needless leading zero. No quantity has more than four digits before the point.
+// No quantity has more than four digits before the point.
 fn width_of(x: u32) -> usize
     ensures { λ r. ⌜ (r ≡ widthOf x) × (r ≤ 4) ⌝ }
 {
-    if x < 10 {
-        return 1;
-    }
-    if x < 100 {
-        return 2;
-    }
-    if x < 1000 {
-        return 3;
-    }
-    4
+    places(3, x as usize)
 }
 
 // Used by the listing too. Answers how long the text is, which may be more than the buffer holds from there on.
@@ -198,7 +130,7 @@ pub fn decimal(x: u32, at: usize, buffer: &mut [u8]) -> usize
     ensures { λ r. ⌜ (r ≡ length (decimal x)) × (r ≤ 4) × (now (buffer .exit) ≡ written at (decimal x) (now (buffer .entry))) ⌝ }
 {
     let k = width_of(x);
-    put_last_digits(k, x, at, buffer);
+    put_last_digits(k, x as usize, at, buffer);
     k
 }
 
@@ -208,7 +140,7 @@ fn put_text(kilowatts: u32, buffer: &mut [u8])
 {
     let k = decimal(kilowatts / 1000, 0, buffer);
     put_byte(46, k, 0, buffer);
-    put_last_digits(3, kilowatts % 1000, k + 1, buffer);
+    put_last_digits(3, (kilowatts % 1000) as usize, k + 1, buffer);
 }
 
 // Both refusals are decided before the first byte is written.

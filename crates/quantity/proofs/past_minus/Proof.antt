@@ -1,5 +1,5 @@
 -- The code asks what the definition asks: was the rest quantity text.
-use Rattle.laws.specs.Kit.{needs}
+use Rattle.laws.specs.Kit.{arith}
 use Rattle.laws.specs.Tests.Laws.{is-equal, is-other}
 use Rattle.paper.specs.QuantityText.{pastMinus}
 use Rattle.quantity.proofs.past_minus.Statement.{statement}
@@ -10,7 +10,7 @@ unfolding pastMinus
 past-minus-spec =
     tie.close
     (tie.spec
-    (search needs)
+    (λ c κs. tt)
     (λ c. rw (is-equal _ _ (c .before .if1 .taken)) (c .read-refused .ensures))
-    (search needs)
+    (λ c κs. tt)
     (λ c. rw (is-other _ _ (c .before .if1 .left)) (c .read-refused2 .ensures)))

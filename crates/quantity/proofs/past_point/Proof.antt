@@ -1,9 +1,9 @@
 -- The code asks the definition's three questions; past them at most three digits are left, so every sum and product fits.
-use Rattle.laws.specs.Kit.{needs, arith, _∙_, _≤_, length}
+use Rattle.laws.specs.Kit.{arith, _∙_, _≤_, length}
 use lib.Seq.{take-all}
 use denote.Ref.{now}
 use Rattle.laws.specs.Tests.Laws.{and-no-left, and-no-right, upto-false, is-other}
-use Rattle.quantity.proofs.Reading.{point-refused, point-read, product-small}
+use Rattle.quantity.proofs.Laws.Reading.{point-refused, point-read, product-small}
 use Rattle.quantity.proofs.past_point.Statement.{statement}
 use Rattle.quantity.proofs.past_point.Tie as tie
 
@@ -39,17 +39,17 @@ pub past-point-spec : {M : Type 1} → statement M
 past-point-spec =
     tie.close
     (tie.spec
-    (search needs)
-    (search needs)
+    (λ c κs. tt)
+    (λ c κs. tt)
     returns
-    (search needs)
+    (λ c κs. tt)
     returns-2
-    (search needs)
+    (λ c κs. tt)
     returns-3
-    (search needs)
+    (λ c. omega arith)
     decimal-from-requires
-    (search needs)
+    (λ c κs. tt)
     (λ c. omega (arith, product-small _ _ (c .before .decimal-from .ensures .1) (c .worth .ensures .1)))
     (λ c. omega (arith, product-small _ _ (c .before .decimal-from .ensures .1) (c .worth .ensures .1)))
-    (search needs)
+    (λ c κs. tt)
     returns-4)

@@ -1,5 +1,5 @@
 -- The code asks the definition's questions in its order.
-use Rattle.laws.specs.Kit.{needs}
+use Rattle.laws.specs.Kit.{arith, needs}
 use Rattle.laws.specs.Tests.Laws.{is-equal, is-other}
 use Rattle.paper.specs.QuantityText.{pastWhole}
 use Rattle.laws.specs.Slices.{rest-slice}
@@ -26,14 +26,14 @@ pub past-whole-spec : {M : Type 1} → statement M
 past-whole-spec =
     tie.close
     (tie.spec
-    (search needs)
-    (search needs)
+    (λ c. omega arith)
+    (λ c κs. tt)
     returns
     (search needs)
-    (search needs)
+    (λ c κs. tt)
     returns-2
-    (search needs)
-    (search needs)
-    (search needs)
+    (λ c. omega arith)
+    (λ c. omega arith)
+    (λ c. omega arith)
     (search needs)
     returns-3)

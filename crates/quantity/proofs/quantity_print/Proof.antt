@@ -1,7 +1,7 @@
 -- The code asks the definition's two questions in its order, a text being four bytes longer than its whole megawatts; only then it writes.
-use Rattle.laws.specs.Kit.{needs, _∙_}
+use Rattle.laws.specs.Kit.{arith, _∙_}
 use denote.Ref.{now}
-use Rattle.quantity.proofs.Printing.{answer-large, into-large, answer-short, into-short, answer-text, into-text}
+use Rattle.quantity.proofs.Laws.Printing.{answer-large, into-large, answer-short, into-short, answer-text, into-text}
 use Rattle.quantity.proofs.quantity_print.Statement.{statement}
 use Rattle.quantity.proofs.quantity_print.Tie as tie
 
@@ -27,4 +27,4 @@ returns-3 c =
     (answer-text _ b _ (w .before .if1 .left) e (f .if2 .left), p .put-text .ensures ∙ into-text _ b _ (w .before .if1 .left) e (f .if2 .left))
 
 pub quantity-print-spec : {M : Type 1} → statement M
-quantity-print-spec = tie.close (tie.spec returns (search needs) (search needs) returns-2 (search needs) (search needs) returns-3)
+quantity-print-spec = tie.close (tie.spec returns (λ c κs. tt) (λ c. omega arith) returns-2 (λ c κs. tt) (λ c. omega arith) returns-3)

@@ -1,5 +1,5 @@
 -- A text with no byte has no minus either; otherwise the code asks the definition's question of the first byte.
-use Rattle.laws.specs.Kit.{needs}
+use Rattle.laws.specs.Kit.{arith, needs}
 use denote.Ref.{now}
 use Rattle.laws.specs.Tests.{is}
 use Rattle.laws.specs.Tests.Laws.{is-equal, is-other}
@@ -27,14 +27,14 @@ pub quantity-read-spec : {M : Type 1} → statement M
 quantity-read-spec =
     tie.close
     (tie.spec
-    (search needs)
+    (λ c κs. tt)
     returns
     (search needs)
-    (search needs)
+    (λ c κs. tt)
     returns-2
-    (search needs)
-    (search needs)
-    (search needs)
-    (search needs)
-    (search needs)
+    (λ c. omega arith)
+    (λ c. omega arith)
+    (λ c. omega arith)
+    (λ c κs. tt)
+    (λ c κs. tt)
     returns-3)

@@ -4,7 +4,7 @@ use lib.ListN.{length-take}
 use lib.Seq.{length-take-le}
 use Rattle.laws.specs.Tests.Laws.{and-no-left, and-no-right, upto-false}
 use Rattle.laws.specs.Slices.{rest-slice}
-use Rattle.quantity.proofs.Reading.{unsigned-refused, unsigned-read}
+use Rattle.quantity.proofs.Laws.Reading.{unsigned-refused, unsigned-read}
 use Rattle.quantity.proofs.unsigned_read.Statement.{statement}
 use Rattle.quantity.proofs.unsigned_read.Tie as tie
 
@@ -28,15 +28,15 @@ pub unsigned-read-spec : {M : Type 1} → statement M
 unsigned-read-spec =
     tie.close
     (tie.spec
-    (search needs)
-    (search needs)
+    (λ c κs. tt)
+    (λ c κs. tt)
     returns
-    (search needs)
+    (λ c κs. tt)
     returns-2
     (λ c. sym (length-take-le _ _ (c .before .before .before .leading-digits .ensures .1)))
     (λ c κs. (simp length-take (omega arith), c .before .before .before .leading-digits .ensures .2))
-    (search needs)
-    (search needs)
-    (search needs)
+    (λ c. omega arith)
+    (λ c. omega arith)
+    (λ c. omega arith)
     (search needs)
     returns-3)

@@ -4,9 +4,9 @@ use Rattle.laws.specs.Tests.Laws.{and-both}
 use Rattle.laws.specs.Lists.{every}
 use Rattle.laws.specs.Lists.Each.{every-more}
 use Rattle.paper.specs.Ids.{digit}
-use Rattle.quantity.proofs.Reading.{run-hit, run-end}
-use Rattle.quantity.proofs.leading_digits.Statement.{statement}
-use Rattle.quantity.proofs.leading_digits.Tie as tie
+use Rattle.quantity.proofs.Laws.Reading.{run-hit, run-end}
+use Rattle.quantity.proofs.digits.leading_digits.Statement.{statement}
+use Rattle.quantity.proofs.digits.leading_digits.Tie as tie
 
 abbrev Inv-loop : tie.InvT-loop
 Inv-loop s i₀ i = (i ≤ length s) × (every digit (take i s) ≡ true)
@@ -35,4 +35,4 @@ returns-2 c = let l = c .before .loop .inv in (run-end _ _ (c .loop-test .left) 
 
 pub leading-digits-spec : {M : Type 1} → statement M
 leading-digits-spec =
-    tie.close (tie.spec Inv-loop μ-loop loop-holds (search needs) (search needs) returns (search needs) (search needs) loop-again returns-2)
+    tie.close (tie.spec Inv-loop μ-loop loop-holds (search needs) (λ c κs. tt) returns (λ c. omega arith) (λ c. omega arith) loop-again returns-2)

@@ -1,10 +1,10 @@
 -- The digits still to write, over the buffer as it stands, give what all of them give over the buffer as it came.
-use Rattle.laws.specs.Kit.{needs, _≡_, length}
+use Rattle.laws.specs.Kit.{arith, needs, _≡_, length}
 use Rattle.laws.specs.Bytes.{written}
 use Rattle.paper.specs.QuantityText.{lastDigits}
-use Rattle.quantity.proofs.Printing.{put-turn, put-end}
-use Rattle.quantity.proofs.put_last_digits.Statement.{statement}
-use Rattle.quantity.proofs.put_last_digits.Tie as tie
+use Rattle.quantity.proofs.Laws.Printing.{put-turn, put-end}
+use Rattle.quantity.proofs.digits.put_last_digits.Statement.{statement}
+use Rattle.quantity.proofs.digits.put_last_digits.Tie as tie
 
 abbrev Inv-loop : tie.InvT-loop
 Inv-loop k x at buffer₀ i₀ rest₀ buffer i rest =
@@ -26,4 +26,4 @@ returns c = put-end _ _ _ _ (c .loop-test .left) (c .before .loop .inv .1)
 pub put-last-digits-spec : {M : Type 1} → statement M
 put-last-digits-spec =
     tie.close
-    (tie.spec Inv-loop μ-loop (search needs) (search needs) (search needs) (search needs) (search needs) (search needs) loop-again (search needs) returns)
+    (tie.spec Inv-loop μ-loop (search needs) (λ c. omega arith) (λ c. omega arith) (λ c. omega arith) (λ c κs. tt) (λ c. omega arith) loop-again (λ c. omega arith) returns)

@@ -3,9 +3,9 @@ use Rattle.laws.specs.Kit.{needs, arith, _≡_, _≤_, _<_, _-_, length, drop}
 use Prim.Native.Nat.{_^_}
 use denote.Ref.{now}
 use Rattle.paper.specs.QuantityText.{decimalFrom}
-use Rattle.quantity.proofs.Reading.{each-digit, decimal-turn, decimal-end, small-turn, small-end}
-use Rattle.quantity.proofs.decimal_from.Statement.{statement}
-use Rattle.quantity.proofs.decimal_from.Tie as tie
+use Rattle.quantity.proofs.Laws.Reading.{each-digit, decimal-turn, decimal-end, small-turn, small-end}
+use Rattle.quantity.proofs.digits.decimal_from.Statement.{statement}
+use Rattle.quantity.proofs.digits.decimal_from.Tie as tie
 
 abbrev Inv-loop : tie.InvT-loop
 Inv-loop s a₀ i₀ a i = (i ≤ length s) × (a < 10 ^ i) × (decimalFrom a (drop i s) ≡ decimalFrom 0 s)
@@ -38,4 +38,4 @@ returns c =
 
 pub decimal-from-spec : {M : Type 1} → statement M
 decimal-from-spec =
-    tie.close (tie.spec Inv-loop μ-loop (search needs) mul-a (search needs) digit-value-requires add-a (search needs) (search needs) loop-again returns)
+    tie.close (tie.spec Inv-loop μ-loop (search needs) mul-a (search needs) digit-value-requires add-a (λ c. omega arith) (λ c. omega arith) loop-again returns)

@@ -1,16 +1,54 @@
 -- What the loop that writes digits does in a turn, what the pieces of a text give together, and what each answer of printing leaves.
 use mathlib.Core.Path.{_≡_, refl, sym, _∙_}
+use mathlib.Core.Logic.{⊎-elim}
+use mathlib.Core.Bool.{Bool, true, false, cond}
 use mathlib.Core.List.{List, _∷_}
 use Prim.Native.Nat.{ℕ, zero, suc, _+_, _-_, _/_, _%_, _≤_, _<_}
 use native.Mathlib.Nat.{add-zero, zero-add}
 use native.Mathlib.Omega.{arith}
 use lib.ListN.{length, set, length-append}
-use Rattle.laws.specs.Tests.{is}
-use Rattle.laws.specs.Tests.Laws.{less-true, less-false}
+use Rattle.laws.specs.Tests.{is, less}
+use Rattle.laws.specs.Tests.Laws.{lt-or, less-true, less-false}
 use Rattle.laws.specs.Bytes.{written}
-use Rattle.laws.specs.Bytes.Laws.{written-none, written-append, written-take-drop}
+use Rattle.laws.specs.Bytes.Laws.{written-none, written-cons, written-last, written-append, written-take-drop}
 use Rattle.paper.specs.QuantityText.{lastDigits, widthOf, decimal, quantityText, quantityPrinted, printedInto}
-use Rattle.laws.specs.Bytes.Laws.{written-cons, written-last}
+use Rattle.quantity.specs.Digits.{placesBy}
+
+-- ---- how many digits a number has, of which some are counted
+
+pub places-hit : (j x : ℕ) → x < 10 → placesBy j x ≡ 1
+unfolding placesBy
+places-hit zero x h = refl
+places-hit (suc j) x h = rw (less-true x 10 h)
+
+pub places-none : (j x : ℕ) → j ≤ 0 → placesBy j x ≡ 1
+unfolding placesBy
+places-none zero x h = refl
+places-none (suc j) x h = absurd (omega arith)
+
+pub places-turn : (j x : ℕ) → 0 < j → 10 ≤ x → placesBy j x ≡ 1 + placesBy (j - 1) (x / 10)
+unfolding placesBy
+places-turn zero x h l = absurd (omega arith)
+places-turn (suc j) x h l = let q : suc j - 1 ≡ j = omega arith in rw (less-false x 10 l, q)
+
+-- before the point, by one question more for each digit
+pub width-places : (x : ℕ) → widthOf x ≡ placesBy 3 x
+unfolding widthOf placesBy
+width-places x = rw (hundred x, thousand x) (joined (less x 10) (less (x / 10) 10) (less (x / 10 / 10) 10))
+  where
+    hundred : (x : ℕ) → less x 100 ≡ less (x / 10) 10
+    hundred x = ⊎-elim (λ h. less-true x 100 h ∙ sym (less-true (x / 10) 10 (omega arith))) (λ h. less-false x 100 h ∙ sym (less-false (x / 10) 10 (omega arith))) (lt-or x 100)
+
+    thousand : (x : ℕ) → less x 1000 ≡ less (x / 10 / 10) 10
+    thousand x = ⊎-elim (λ h. less-true x 1000 h ∙ sym (less-true (x / 10 / 10) 10 (omega arith))) (λ h. less-false x 1000 h ∙ sym (less-false (x / 10 / 10) 10 (omega arith))) (lt-or x 1000)
+
+    joined : (a b c : Bool) → cond a 1 (cond b 2 (cond c 3 4)) ≡ cond a 1 (1 + cond b 1 (1 + cond c 1 2))
+    joined true b c = refl
+    joined false true c = refl
+    joined false false true = refl
+    joined false false false = refl
+
+-- ---- the last digits, from the last to the first
 
 pub last-digits-length : (k x : ℕ) → length (lastDigits k x) ≡ k
 unfolding lastDigits

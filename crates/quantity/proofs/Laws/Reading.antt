@@ -40,11 +40,11 @@ module _ (s : List ℕ) (i : ℕ) where
 pub small-turn : (i a d : ℕ) → a < 10 ^ i → d < 10 → 10 * a + d < 10 ^ (i + 1)
 small-turn i a d h k = rw (add-one i, pow-suc) (omega arith)
 
-pub small-end : (i a : ℕ) → i ≤ 4 → a < 10 ^ i → a < 10000
-small-end i a h k = let q : 10 ^ i ≤ 10 ^ 4 = pow-le-pow-right (omega arith) h in omega arith
+pub small-end : (i a : ℕ) → i ≤ 5 → a < 10 ^ i → a < 100000
+small-end i a h k = let q : 10 ^ i ≤ 10 ^ 5 = pow-le-pow-right (omega arith) h in omega arith
 
-pub product-small : (a b : ℕ) → a < 10000 → b ≤ 100 → a * b ≤ 1000000
-product-small a b h k = let q : a * b ≤ 10000 * 100 = mul-le-mul {n₂ = 10000} (omega arith) k in omega arith
+pub product-small : (a b : ℕ) → a < 100000 → b ≤ 100 → a * b ≤ 10000000
+product-small a b h k = let q : a * b ≤ 100000 * 100 = mul-le-mul {n₂ = 100000} (omega arith) k in omega arith
 
 -- ---- the run of m digits that a text starts with
 

@@ -2,8 +2,8 @@
 use Rattle.laws.specs.Kit.{needs, arith}
 use Rattle.laws.specs.Tests.Laws.{and-left, and-right, upto-yes}
 use Rattle.paper.specs.Ids.{digit}
-use Rattle.quantity.proofs.digit_value.Statement.{statement}
-use Rattle.quantity.proofs.digit_value.Tie as tie
+use Rattle.quantity.proofs.digits.digit_value.Statement.{statement}
+use Rattle.quantity.proofs.digits.digit_value.Tie as tie
 
 pub digit-value-spec : {M : Type 1} → statement M
 unfolding digit
@@ -11,5 +11,5 @@ digit-value-spec =
     tie.close
     (tie.spec
     (λ c. omega (arith, upto-yes _ _ (and-left _ _ (c .pre))))
-    (search needs)
+    (λ c. omega arith)
     (λ c. (search needs, omega (arith, upto-yes _ _ (and-right _ _ (c .pre))))))

@@ -1,0 +1,2 @@
+-- Beside the paper's definitions of quantity text.
+pub mod Digits
