@@ -1,6 +1,8 @@
 // The day block: "as above with valid EICs".
 ghost use mathlib.Core.Path.{_≡_};
+ghost use Prim.Native.Nat.{_≤_};
 ghost use Rattle.paper.specs.Sound.{dayFields, daySound};
+ghost use Rattle.paper.specs.Rules.{closed};
 ghost use Rattle.eic.specs.Table.{IsTable};
 use super::ranges::clock_allowed;
 use super::ranges::lead_allowed;
@@ -15,6 +17,7 @@ use layout::kind;
 use layout::lead;
 use layout::n_of;
 use layout::receiver;
+use paper::Position;
 
 fn day_fields(d: &[u8]) -> bool
     ensures { λ r. ⌜ r ≡ dayFields (now (d .entry)) ⌝ }
@@ -35,4 +38,12 @@ pub fn day_sound(table: &[u8; 256], d: &[u8]) -> bool
         & eic_valid_with(table, area(d))
         & eic_valid_with(table, receiver(d))
         & day_zeros(d)
+}
+
+// "Position p is open exactly when clock + lead ≤ 15 × (p − 1)." Clock and lead together need more than the two bytes that each has.
+pub fn closed(d: &[u8], position: Position) -> bool
+    requires { ⌜ (1 ≤ position .0) × (position .0 ≤ 255) ⌝ }
+    ensures { λ r. ⌜ r ≡ closed (now (d .entry)) (position .0) ⌝ }
+{
+    !(clock(d).0 as usize + lead(d) as usize <= 15 * (position.0 - 1) + 10080)
 }

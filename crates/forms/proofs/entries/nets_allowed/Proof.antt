@@ -9,7 +9,7 @@ use Rattle.forms.proofs.entries.nets_allowed.Tie as tie
 
 returns : tie.Need-returns
 unfolding netsAllowed net quantity entryAllowed _and_
-returns c = cc
+returns c = simp (c .all-zero .ensures, c .before .above-n .ensures, c .before .before .entries-allowed .ensures)
 
 pub nets-allowed-spec : {M : Type 1} → statement M
 nets-allowed-spec = tie.close (tie.spec (λ c κs. search needs) (λ c κs. search needs) (λ c κs. search needs) returns)

@@ -8,7 +8,7 @@ use Rattle.forms.proofs.entries.quantities_allowed.Tie as tie
 
 returns : tie.Need-returns
 unfolding quantitiesAllowed entryAllowed _and_
-returns c = cc
+returns c = simp (c .all-zero .ensures, c .before .above-n .ensures, c .before .before .entries-allowed .ensures)
 
 pub quantities-allowed-spec : {M : Type 1} → statement M
 quantities-allowed-spec = tie.close (tie.spec (λ c κs. search needs) (λ c κs. search needs) (λ c κs. search needs) returns)

@@ -13,4 +13,15 @@ returns c = rw (number-4 _ _) (c .four-bytes .ensures)
 pub whole-entry-spec : {M : Type 1} → statement M
 whole-entry-spec =
     tie.close
-    (tie.spec (search needs) (search needs) (search needs) (search needs) (search needs) (search needs) (search needs) (search needs) (search needs) (λ c κs. search needs) returns)
+    (tie.spec
+    (λ c. omega arith)
+    (λ c. omega arith)
+    (search needs)
+    (λ c. omega arith)
+    (search needs)
+    (λ c. omega arith)
+    (search needs)
+    (λ c. omega arith)
+    (search needs)
+    (λ c κs. search needs)
+    returns)
