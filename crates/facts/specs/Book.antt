@@ -1,6 +1,7 @@
 -- A book is its day block and its slots, and bytes joined from blocks of 512 are read as those blocks; what a test says of a block follows from its kind.
 use mathlib.Core.Path.{_≡_, refl, sym, ap, ap₂, _∙_}
 use mathlib.Core.Bool.{Bool, true, false}
+use mathlib.Core.Option.{Option·getD}
 use mathlib.Core.List.{List, [], _∷_, _++_, map, append-assoc}
 use Prim.Native.Nat.{ℕ, zero, suc, _+_, _-_, _*_, _/_, _%_, _≤_, _<_}
 use native.Mathlib.Omega.{arith}
@@ -8,10 +9,10 @@ use lib.ListN.{length, take, drop, length-drop, List·getD-append}
 use lib.Seq.{take-at, drop-at, drop-drop}
 use Rattle.laws.specs.Tests.{_or_, is}
 use Rattle.laws.specs.Tests.Laws.{split, clash, and-left, and-right, and-both, and-no-left, and-no-right, or-else, is-yes, is-equal, is-other}
-use Rattle.laws.specs.Lists.{same, place, has, until, All}
+use Rattle.laws.specs.Lists.{same, place, has, until, All, find, further}
 use Rattle.laws.specs.Lists.Same.{same-yes, same-equal}
-use Rattle.laws.specs.Lists.Each.{all-until, all-getD, getD-inside, every-all, getD-map}
-use Rattle.laws.specs.Lists.Search.{place-positive, place-passes}
+use Rattle.laws.specs.Lists.Each.{all-until, all-getD, every-all, getD-inside, getD-map}
+use Rattle.laws.specs.Lists.Search.{has-yes, find-passes}
 use Rattle.laws.specs.Lists.Keep.{until-append}
 use Rattle.laws.specs.Bytes.{part, value, number}
 use Rattle.laws.specs.Cut.{join}
@@ -128,13 +129,19 @@ unfolding numbered
 numbered-inside l zero p n e = clash e n
 numbered-inside l (suc k) p n e = let h : k < length l = getD-inside l k [] p n e in (omega arith, omega arith)
 
+numbered-further : (x : Block) (l : List Block) (n : ℕ) → numbered (x ∷ l) (further n) ≡ numbered l n
+unfolding numbered further
+numbered-further x l zero = refl
+numbered-further x l (suc n) = refl
+
+-- the block at the place of the first that passes is that first
+pub numbered-found : (p : Block → Bool) (l : List Block) → numbered l (place p l) ≡ Option·getD (find p l) []
+unfolding numbered place find
+numbered-found p [] = refl
+numbered-found p (x ∷ l) = split (p x) (λ t. rw t) (λ t. rw t (numbered-further x l (place p l) ∙ numbered-found p l))
+
 pub numbered-place : (p : Block → Bool) (l : List Block) → has p l ≡ true → p (numbered l (place p l)) ≡ true
-unfolding numbered
-numbered-place p l e = by (place p l) refl
-  where
-    by : (i : ℕ) → i ≡ place p l → p (numbered l i) ≡ true
-    by zero q = absurd (omega (arith, place-positive p l e))
-    by (suc k) q = let z : suc k - 1 ≡ k = omega arith in rw z at (place-passes p l (suc k) q [] (λ y. omega arith))
+numbered-place p l e = let x = has-yes p l e in rw (numbered-found p l, x .1) (find-passes p l (x .0) (x .1))
 
 -- ---- a book's bytes and its blocks
 

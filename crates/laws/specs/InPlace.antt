@@ -22,6 +22,12 @@ module _ {X : Type 0} where
   unfolding done
   done-all g l s h = rw (take-all s l h, drop-of-length-le l h) (append-nil (map (g l) l))
 
+  pub done-next : (g : List X → X → X) (l : List X) (i : ℕ) (d : X) → i < length l → getD (done g l i) i d ≡ getD l i d
+  unfolding done
+  done-next g l i d h =
+      let z : length (map (g l) (take i l)) ≡ i = length-map (take i l) (g l) ∙ length-take-le i l (omega arith) in
+      ap (λ w. getD (map (g l) (take i l) ++ w) i d) (drop-cons l i d h) ∙ getD-at (map (g l) (take i l)) (getD l i d) (drop (suc i) l) d i z
+
   module _ {W : Type 0} (view : X → W) (g : List X → X → X)
       (keeps : (l : List X) (y : X) → view (g l y) ≡ view y)
       (reads : (l r : List X) (y : X) → map view l ≡ map view r → g l y ≡ g r y)

@@ -5,10 +5,10 @@ use Prim.Native.Nat.{ℕ, zero, suc, _+_, _-_, _*_, _/_, _^_, _≤_, _<_}
 use native.Mathlib.Nat.{add-zero, zero-add, suc-add, add-suc, pow-zero, pow-suc, pow-le-pow-right, lt-of-lt-of-le}
 use native.Mathlib.Numerals.{add-one}
 use native.Mathlib.Omega.{arith}
-use lib.ListN.{length, take, drop, getD, set, length-set, length-take, length-drop, drop-of-length-le}
-use lib.Seq.{sets, length-sets, sets-eq, set-append-left, drop-set-lt, drop-set-add, take-set-le, take-set-lt, drop-at, take-at, length-take-le, take-append-le, drop-append-le, drop-append-add, take-nil, take-take, take-all, take-add, drop-drop, set-comm}
+use lib.ListN.{length, take, drop, getD, set, length-set, length-take, length-drop, drop-of-length-le, replicate, replicate-append-replicate}
+use lib.Seq.{sets, length-sets, sets-eq, set-append-left, drop-set-lt, drop-set-add, take-set-le, take-set-lt, drop-at, take-at, length-take-le, take-append-le, drop-append-le, drop-append-add, take-nil, take-take, take-all, take-add, drop-drop, set-comm, take-suc-set}
 use Rattle.laws.specs.Lists.{All}
-use Rattle.laws.specs.Lists.Each.{drop-take, all-take, all-drop}
+use Rattle.laws.specs.Lists.Each.{all-take, all-drop, drop-take}
 use Rattle.laws.specs.Bytes.{part, written, value, little, number}
 
 -- ---- a part
@@ -57,6 +57,13 @@ part-append-left o n a b h = ap (take n) (drop-append-le o a b (omega arith)) �
 pub part-append-right : (o n : ℕ) (a b : List ℕ) → part (length a + o) n (a ++ b) ≡ part o n b
 unfolding part
 part-append-right o n a b = ap (take n) (drop-append-add a b o)
+
+pub part-here : (a b : List ℕ) (n : ℕ) → length a ≡ n → part 0 n (a ++ b) ≡ a
+unfolding part
+part-here a b n e = take-at a b n e
+
+pub part-over : (a b : List ℕ) (k o n : ℕ) → length a ≡ k → part (k + o) n (a ++ b) ≡ part o n b
+part-over a b k o n e = rw (sym e) (part-append-right o n a b)
 
 pub all-part : (P : ℕ → Type 0) (o n : ℕ) (b : List ℕ) → All P b → All P (part o n b)
 unfolding part
@@ -150,6 +157,12 @@ written-append-right o (x ∷ v) a b =
     by [] = rw (zero-add o)
     by (y ∷ ys) = rw (suc-add (length ys) o) (ap (λ z. y ∷ z) (by ys))
 
+pub written-here : (z r v : List ℕ) → length v ≡ length z → written 0 v (z ++ r) ≡ v ++ r
+written-here z r v e = written-append-left 0 v z r (omega arith) ∙ ap (λ x. x ++ r) (written-all v z e)
+
+pub written-over : (a b v : List ℕ) (k o : ℕ) → length a ≡ k → written (k + o) v (a ++ b) ≡ a ++ written o v b
+written-over a b v k o e = rw (sym e) (written-append-right o v a b)
+
 -- ---- bytes as numbers
 
 pub little-length : (w x : ℕ) → length (little w x) ≡ w
@@ -221,3 +234,15 @@ number-written w o x b h f = rw (little-length w x) at (ap value (part-written-s
 pub number-written-after : (w o p : ℕ) (v b : List ℕ) → p + length v ≤ o → number w o (written p v b) ≡ number w o b
 unfolding number
 number-written-after w o p v b h = ap value (part-written-after o w p v b h)
+
+-- ---- zeros
+
+pub zeros-split : (k n : ℕ) → k ≤ n → replicate {A = ℕ} k 0 ++ replicate (n - k) 0 ≡ replicate n 0
+zeros-split k n h = let e : k + (n - k) ≡ n = omega arith in replicate-append-replicate k (n - k) 0 ∙ ap (λ i. replicate i 0) e
+
+-- a loop that sets bytes to 0: one more, and the end
+pub zero-more : (s : List ℕ) (i : ℕ) → i < length s → take i s ≡ replicate i 0 → take (i + 1) (set s i 0) ≡ replicate (i + 1) 0
+zero-more s i h e = ap (λ k. take k (set s i 0)) (add-one i) ∙ take-suc-set s i 0 h ∙ ap (λ x. x ++ 0 ∷ []) e ∙ replicate-append-replicate i 1 0
+
+pub zero-end : (s : List ℕ) (i n : ℕ) → i ≡ n → length s ≤ i → take i s ≡ replicate i 0 → s ≡ replicate n 0
+zero-end s i n q h e = sym (take-all i s h) ∙ e ∙ ap (λ k. replicate k 0) q

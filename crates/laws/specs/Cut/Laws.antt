@@ -10,9 +10,9 @@ use lib.ListN.{length, take, drop, getD, set, length-append, length-drop, take-a
 use lib.Seq.{drop-cons, drop-drop, take-take, take-at, drop-at, length-take-le, take-append-le, drop-append-le}
 use Rattle.laws.specs.Tests.Laws.{lt-or}
 use Rattle.laws.specs.Lists.{All}
-use Rattle.laws.specs.Lists.Each.{drop-take, all-take, all-drop}
+use Rattle.laws.specs.Lists.Each.{all-take, all-drop, drop-take}
 use Rattle.laws.specs.Bytes.{written}
-use Rattle.laws.specs.Bytes.Laws.{take-written, drop-written, take-written-inner, drop-written-inner, written-all, written-length}
+use Rattle.laws.specs.Bytes.Laws.{written-length, written-all, take-written, drop-written, take-written-inner, drop-written-inner}
 use Rattle.laws.specs.Cut.{chunks, cut, join, block}
 
 -- ---- multiples of the width

@@ -1,14 +1,15 @@
 -- No element clashes with a later one.
-use mathlib.Core.Path.{_≡_, refl}
+use mathlib.Core.Path.{_≡_, refl, sym}
 use mathlib.Core.Bool.{Bool, true, false}
 use mathlib.Core.List.{List, [], _∷_, _++_, map}
 use Prim.Native.Nat.{ℕ, zero, suc, _<_}
 use native.Mathlib.Omega.{arith}
 use lib.ListN.{length, getD}
-use Rattle.laws.specs.Tests.{neg}
-use Rattle.laws.specs.Tests.Laws.{split, clash, and-left, and-right, and-both, neg-yes, neg-true}
-use Rattle.laws.specs.Lists.{further, place, apart, keep, All}
+use Rattle.laws.specs.Tests.{_and_, _or_, neg, is}
+use Rattle.laws.specs.Tests.Laws.{split, clash, and-left, and-right, and-both, or-yes-left, or-yes-right, neg-yes, neg-true, neg-false, is-equal}
+use Rattle.laws.specs.Lists.{further, place, apart, keep, All, has, every}
 use Rattle.laws.specs.Lists.Each.{all-imply, all-each, all-append, all-getD-inside, every-all, all-every, every-keep, all-map}
+use Rattle.laws.specs.Lists.Search.{all-has-no, further-is, one-is-further, further-is-one}
 
 module _ {A : Type 0} where
   pub apart-append : (c : A → A → Bool) (l r : List A) → apart c l ≡ true → apart c r ≡ true → All (λ x. All (λ y. c x y ≡ false) r) l → apart c (l ++ r) ≡ true
@@ -55,3 +56,34 @@ module _ {A B : Type 0} where
       one : (l : List A) → All Q l → All (λ y. neg (e x y) ≡ true) l → All (λ y. neg (c (f x) (f y)) ≡ true) l
       one [] h k = tt
       one (y ∷ ys) h k = (neg-true _ (g x y (q .0) (h .0) (neg-yes _ (k .0))), one ys (h .1) (k .1))
+
+-- ---- of those that pass o, no two of which pass s, and no two t: one passes s or t and not both, if the first places of s and t differ
+
+module _ {X : Type 0} (o s t : X → Bool) (clashes : X → X → Bool)
+    (by : (x z : X) → o x ≡ true → o z ≡ true → ((s x and s z) or (t x and t z)) ≡ true → clashes x z ≡ true) where
+  abbrev crossed : X → Bool
+  crossed x = o x and ((s x and neg (t x)) or (t x and neg (s x)))
+
+  alone : (x z : X) → o x ≡ true → s x ≡ true → t x ≡ true → neg (clashes x z) ≡ true → crossed z ≡ false
+  unfolding _and_ _or_
+  alone x z e f g n =
+      split (o z)
+      (λ u. split (s z)
+      (λ v. clash (by x z e u (or-yes-left (s x and s z) (t x and t z) (and-both _ _ f v))) (neg-yes _ n))
+      (λ v. split (t z) (λ w. clash (by x z e u (or-yes-right (s x and s z) (t x and t z) (and-both _ _ g w))) (neg-yes _ n)) (λ w. rw (u, v, w))))
+      (λ u. rw u)
+
+  pub apart-places-differ : (l : List X) → apart clashes l ≡ true → has crossed l ≡ neg (is (place (λ x. o x and s x) l) (place (λ x. o x and t x) l))
+  unfolding has place apart _and_ _or_ neg
+  apart-places-differ [] a = sym (neg-false _ (is-equal 0 0 refl))
+  apart-places-differ (x ∷ xs) a =
+      let rest : has crossed xs ≡ neg (is (place (λ x. o x and s x) xs) (place (λ x. o x and t x) xs)) = apart-places-differ xs (and-right (every (λ y. neg (clashes x y)) xs) (apart clashes xs) a) in
+      split (o x)
+      (λ u. split (s x)
+      (λ v. split (t x)
+      (λ w. rw (u, v, w, all-has-no crossed xs (all-imply _ _ (λ z n. alone x z u v w n) xs (every-all (λ y. neg (clashes x y)) xs (and-left (every (λ y. neg (clashes x y)) xs) (apart clashes xs) a)))) (sym (neg-false _ (is-equal 1 1 refl))))
+      (λ w. rw (u, v, w, one-is-further (place (λ x. o x and t x) xs))))
+      (λ v. split (t x)
+      (λ w. rw (u, v, w, further-is-one (place (λ x. o x and s x) xs)))
+      (λ w. rw (u, v, w, further-is (place (λ x. o x and s x) xs) (place (λ x. o x and t x) xs)) rest)))
+      (λ u. rw (u, further-is (place (λ x. o x and s x) xs) (place (λ x. o x and t x) xs)) rest)

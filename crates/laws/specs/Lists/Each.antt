@@ -3,7 +3,7 @@ use mathlib.Core.Path.{_≡_, refl, sym, ap, _∙_}
 use mathlib.Core.Bool.{Bool, true, false, true≢false}
 use mathlib.Core.Option.{some, Option·map}
 use mathlib.Core.List.{List, [], _∷_, _++_, map}
-use Prim.Native.Nat.{ℕ, zero, suc, _+_, _<_}
+use Prim.Native.Nat.{ℕ, zero, suc, _+_, _<_, _≤_}
 use native.Mathlib.Nat.{zero-add, suc-add}
 use native.Mathlib.Numerals.{add-one}
 use native.Mathlib.Omega.{arith}
@@ -152,6 +152,12 @@ module _ {A : Type 0} where
   drop-take zero n l = rw (zero-add n)
   drop-take (suc o) n [] = rw (suc-add o n) (sym (take-nil n))
   drop-take (suc o) n (x ∷ xs) = rw (suc-add o n) (drop-take o n xs)
+
+  -- a list whose elements are what f gives of those of l
+  pub take-as-map : (f : A → ℕ) (d : A) (l : List A) (v : List ℕ) → ((k : ℕ) → k < length l → getD v k 0 ≡ f (getD l k d)) → length l ≤ length v → take (length l) v ≡ map f l
+  take-as-map f d [] v a h = refl
+  take-as-map f d (x ∷ l) [] a h = absurd (omega arith)
+  take-as-map f d (x ∷ l) (n ∷ v) a h = let e : n ≡ f x = a 0 (omega arith) in rw (e, take-as-map f d l v (λ k i. a (suc k) (omega arith)) (omega arith))
 
 module _ {A B : Type 0} where
   -- ---- map

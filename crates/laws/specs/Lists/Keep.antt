@@ -2,14 +2,14 @@
 use mathlib.Core.Path.{_≡_, refl, sym, ap, _∙_}
 use mathlib.Core.Bool.{Bool, true, false}
 use mathlib.Core.List.{List, [], _∷_, _++_, map}
-use Prim.Native.Nat.{ℕ, zero, suc, _≤_, _<_, _+_}
+use Prim.Native.Nat.{ℕ, zero, suc, _≤_, _<_, _+_, _-_}
 use native.Mathlib.Omega.{arith}
-use lib.ListN.{length, take, getD}
+use lib.ListN.{length, take, getD, drop, length-drop, take-append-drop}
 use lib.Seq.{take-all}
 use Rattle.laws.specs.Tests.Laws.{split, cond-apply, or-left, or-right, or-no}
-use Rattle.laws.specs.Lists.{has, keep, until, All, count}
+use Rattle.laws.specs.Lists.{has, count, keep, until, All}
 use Rattle.laws.specs.Lists.Each.{all-each}
-use Rattle.laws.specs.Lists.Count.{count-keep, count-length}
+use Rattle.laws.specs.Lists.Count.{count-append, count-keep, count-length}
 
 module _ {A : Type 0} where
   -- ---- keep
@@ -67,6 +67,14 @@ module _ {A : Type 0} where
       by : (r : List A) → take (length (until p r)) r ≡ until p r
       by [] = refl
       by (x ∷ xs) = split (p x) (λ t. rw t) (λ t. rw t (ap (λ z. x ∷ z) (by xs)))
+
+  -- how many pass, where all pass behind the first that does
+  pub count-until : (p : A → Bool) (l : List A) → All (λ x. p x ≡ true) (drop (length (until p l)) l) → count p l ≡ length l - length (until p l)
+  count-until p l h =
+      let n : ℕ = length (until p l) in
+      let a : count p (take n l) ≡ 0 = ap (count p) (until-take p l n refl) ∙ count-keep p (until p l) ∙ ap length (keep-none p (until p l) (until-has p l)) in
+      let b : count p (drop n l) ≡ length l - n = count-keep p (drop n l) ∙ ap length (keep-all p (drop n l) h) ∙ length-drop n l in
+      ap (count p) (sym (take-append-drop n l)) ∙ count-append p (take n l) (drop n l) ∙ omega arith
 
   pub until-all : (p : A → Bool) (l : List A) → has p l ≡ false → until p l ≡ l
   unfolding until has

@@ -5,9 +5,10 @@ use mathlib.Core.Option.{none, some, Option·map}
 use mathlib.Core.List.{List, [], _∷_, _++_, map}
 use Prim.Native.Nat.{ℕ, zero, suc, _-_, _≤_, _<_}
 use native.Mathlib.Omega.{arith}
-use lib.ListN.{length, getD}
-use Rattle.laws.specs.Tests.{_and_, _or_, neg, is}
-use Rattle.laws.specs.Tests.Laws.{split, clash, cond-apply, or-left, or-right, or-no, neg-false, is-other, is-equal}
+use lib.ListN.{length, take, getD}
+use lib.Seq.{take-suc}
+use Rattle.laws.specs.Tests.{_and_, _or_, neg, is, below}
+use Rattle.laws.specs.Tests.Laws.{split, clash, cond-apply, or-left, or-right, or-no, or-false, or-exchange, neg-true, neg-false, neg-and-neg, is-yes, is-no, is-equal, is-other}
 use Rattle.laws.specs.Lists.{further, find, place, nth, has, every, keep, All}
 use Rattle.laws.specs.Lists.Each.{all-imply, all-each, all-find, every-all, nth-getD}
 
@@ -60,6 +61,19 @@ module _ {A : Type 0} where
   has-agree p q [] h = refl
   has-agree p q (y ∷ ys) h = rw (h .0, has-agree p q ys (h .1))
 
+  pub has-or : (p q : A → Bool) (l : List A) → has (λ x. p x or q x) l ≡ (has p l or has q l)
+  unfolding has _or_
+  has-or p q [] = refl
+  has-or p q (x ∷ xs) = ap (λ z. (p x or q x) or z) (has-or p q xs) ∙ or-exchange (p x) (q x) (has p xs) (has q xs)
+
+  -- of the first n elements, by a test of their numbers
+  pub has-take-below : (p : A → Bool) (q : ℕ → Bool) (d : A) (l : List A) → ((k : ℕ) → k < length l → q k ≡ p (getD l k d)) → (n : ℕ) → n ≤ length l → has p (take n l) ≡ neg (below (λ k. neg (q k)) n)
+  unfolding below has
+  has-take-below p q d l a zero h = sym (neg-false true refl)
+  has-take-below p q d l a (suc n) h =
+      ap (has p) (take-suc l n d (omega arith)) ∙ has-append p (take n l) (getD l n d ∷ [])
+      ∙ rw (or-false (p (getD l n d)), has-take-below p q d l a n (omega arith), ← a n (omega arith)) (sym (neg-and-neg (below (λ k. neg (q k)) n) (q n)))
+
   -- a search of what a sieve lets through
   pub has-sieve : (p f q : A → Bool) → ((x : A) → f x ≡ true → q x ≡ p x) → ((x : A) → f x ≡ false → q x ≡ false) → (l : List A) → has p (keep f l) ≡ has q l
   unfolding has keep _or_
@@ -71,6 +85,9 @@ module _ {A : Type 0} where
   pub has-keep-and : (p f : A → Bool) (l : List A) → has p (keep f l) ≡ has (λ x. f x and p x) l
   unfolding _and_
   has-keep-and p f l = has-sieve p f (λ x. f x and p x) (λ x t. rw t) (λ x t. rw t) l
+
+  pub has-keep-or : (f p q : A → Bool) (l : List A) → has (λ x. f x and (p x or q x)) l ≡ (has p (keep f l) or has q (keep f l))
+  has-keep-or f p q l = sym (has-keep-and (λ x. p x or q x) f l) ∙ has-or p q (keep f l)
 
   -- ---- find
 
@@ -136,6 +153,23 @@ further-suc : (n : ℕ) → further (suc n) ≡ suc (suc n)
 unfolding further
 further-suc n = refl
 
+pub further-is : (n m : ℕ) → is (further n) (further m) ≡ is n m
+unfolding further
+further-is zero zero = refl
+further-is zero (suc m) = is-other _ _ (λ z. omega arith) ∙ sym (is-other _ _ (λ z. omega arith))
+further-is (suc n) zero = is-other _ _ (λ z. omega arith) ∙ sym (is-other _ _ (λ z. omega arith))
+further-is (suc n) (suc m) = split (is (suc n) (suc m)) (λ u. is-equal _ _ (ap suc (is-yes _ _ u)) ∙ sym u) (λ u. is-other _ _ (λ z. is-no _ _ u (omega arith)) ∙ sym u)
+
+pub one-is-further : (n : ℕ) → is 1 (further n) ≡ false
+unfolding further
+one-is-further zero = is-other _ _ (λ z. omega arith)
+one-is-further (suc n) = is-other _ _ (λ z. omega arith)
+
+pub further-is-one : (n : ℕ) → is (further n) 1 ≡ false
+unfolding further
+further-is-one zero = is-other _ _ (λ z. omega arith)
+further-is-one (suc n) = is-other _ _ (λ z. omega arith)
+
 module _ {A : Type 0} where
   nth-further : (y : A) (ys : List A) (k : ℕ) → nth (y ∷ ys) (further k) ≡ nth ys k
   unfolding nth further
@@ -188,6 +222,15 @@ module _ {A : Type 0} where
   place-agree p q [] h = refl
   place-agree p q (y ∷ ys) h = rw (h .0, place-agree p q ys (h .1))
 
+  -- the first that passes stands before one that passes at i, or is that one
+  pub has-take-place : (q : A → Bool) (l : List A) (i : ℕ) (d : A) → i < length l → q (getD l i d) ≡ true → has q (take i l) ≡ neg (is (place q l) (suc i))
+  unfolding has place _or_
+  has-take-place q [] i d h e = absurd (omega arith)
+  has-take-place q (x ∷ xs) zero d h e = rw e (sym (neg-false _ (is-equal 1 1 refl)))
+  has-take-place q (x ∷ xs) (suc i) d h e = split (q x)
+      (λ u. rw u (sym (neg-true _ (is-other 1 (suc (suc i)) (λ z. omega arith)))))
+      (λ u. rw (u, ← further-suc i, further-is (place q xs) (suc i)) (has-take-place q xs i d (omega arith) e))
+
   -- what a place t that was found says
   module _ (p : A → Bool) (l : List A) (t : ℕ) (e : t ≡ place p l) where
     pub place-within : t ≤ length l
@@ -204,9 +247,6 @@ module _ {A : Type 0} where
         nonzero : (n : ℕ) → (n ≡ 0 → ⊥) → 0 < n
         nonzero zero f = absurd (f refl)
         nonzero (suc n) f = omega arith
-
-    pub place-passes : (d : A) → (t ≡ 0 → ⊥) → p (getD l (t - 1) d) ≡ true
-    place-passes d z = find-passes p l (getD l (t - 1) d) (place-find d z)
 
 module _ {A B : Type 0} where
   -- ---- of elements that are changed

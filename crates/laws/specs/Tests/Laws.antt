@@ -107,6 +107,13 @@ unfolding _or_
 or-false true = refl
 or-false false = refl
 
+pub or-exchange : (a b c d : Bool) → ((a or b) or (c or d)) ≡ ((a or c) or (b or d))
+unfolding _or_
+or-exchange true b c d = refl
+or-exchange false true true d = refl
+or-exchange false true false d = refl
+or-exchange false false c d = refl
+
 -- ---- neg
 
 pub neg-yes : (a : Bool) → neg a ≡ true → a ≡ false
@@ -131,6 +138,18 @@ neg-both true true = refl
 neg-both true false = refl
 neg-both false true = refl
 neg-both false false = refl
+
+pub neg-and-neg : (a b : Bool) → neg (a and neg b) ≡ (neg a or b)
+unfolding neg _and_ _or_
+neg-and-neg true true = refl
+neg-and-neg true false = refl
+neg-and-neg false b = refl
+
+pub neg-or-neg : (a b : Bool) → neg (neg a or neg b) ≡ (a and b)
+unfolding neg _or_ _and_
+neg-or-neg true true = refl
+neg-or-neg true false = refl
+neg-or-neg false b = refl
 
 -- ---- numbers compared: -yes and -no from the test, -true and -false to it
 
