@@ -4,37 +4,24 @@ use mathlib.Core.Bool.{Bool, true, false}
 use mathlib.Core.List.{List}
 use Prim.Native.Nat.{ℕ, suc, _-_, _*_, _/_, _≤_, _<_}
 use native.Mathlib.Omega.{arith}
-use lib.ListN.{length, take, drop, length-drop, take-append-drop}
-use Rattle.laws.specs.Tests.Laws.{and-left, and-right, neg-no, neg-true, neg-false, upto-yes}
-use Rattle.laws.specs.Lists.{until, count, All}
-use Rattle.laws.specs.Lists.Each.{all-imply, every-all}
-use Rattle.laws.specs.Lists.Count.{count-append, count-keep}
-use Rattle.laws.specs.Lists.Keep.{until-length, until-take, until-has, keep-none, keep-all}
-use Rattle.laws.specs.Bytes.{part, number}
+use lib.ListN.{length}
+use Rattle.laws.specs.Tests.Laws.{neg-no, neg-true, neg-false}
+use Rattle.laws.specs.Lists.{until}
+use Rattle.laws.specs.Lists.Keep.{until-length, until-take, count-until}
+use Rattle.laws.specs.Bytes.{part}
 use Rattle.laws.specs.Bytes.Laws.{part-rest}
 use Rattle.laws.specs.Cut.{cut}
 use Rattle.laws.specs.Cut.Laws.{cut-length, take-cut}
 use Rattle.paper.specs.declared.Verdict.{Verdict}
-use Rattle.paper.specs.Layout.{Bytes, Block, sender, sendersSlot, seriesZerosInMessage}
-use Rattle.paper.specs.Ranges.{wholeBlocks}
+use Rattle.paper.specs.Layout.{Bytes, Block, sender}
 use Rattle.paper.specs.Book.{dayBlock, slots, isFree, used, freeSlots, slotOf, ownSender, ownSeries}
 use Rattle.paper.specs.Sound.{sound}
-use Rattle.paper.specs.Message.{headOf, seriesOf, seriesRight, messageRight, rule2}
+use Rattle.paper.specs.Message.{headOf, seriesOf, rule2}
 use Rattle.paper.specs.Rules.{numberOf, _then_, broken, rule1, judge, verdict}
-use Rattle.facts.specs.Book.{series-of-yes, slots-length}
-use Rattle.facts.specs.Layout.{value-zeros}
-use Rattle.facts.specs.Sound.{sound-says}
+use Rattle.facts.specs.Sound.{sound-says, used-few}
+use Rattle.facts.specs.Verdict.{message-says, series-some-few}
 use Rattle.judge.specs.Looked.{Taken, FoundIf, HandedIf}
 use Rattle.judge.proofs.Laws.{then-hit, then-pass}
-
--- ---- how many pass, where all pass behind the first that does
-
-pub count-until : {X : Type 0} (p : X → Bool) (l : List X) → All (λ x. p x ≡ true) (drop (length (until p l)) l) → count p l ≡ length l - length (until p l)
-count-until p l h =
-    let n : ℕ = length (until p l) in
-    let a : count p (take n l) ≡ 0 = ap (count p) (until-take p l n refl) ∙ count-keep p (until p l) ∙ ap length (keep-none p (until p l) (until-has p l)) in
-    let b : count p (drop n l) ≡ length l - n = count-keep p (drop n l) ∙ ap length (keep-all p (drop n l) h) ∙ length-drop n l in
-    ap (count p) (sym (take-append-drop n l)) ∙ count-append p (take n l) (drop n l) ∙ omega arith
 
 -- ---- the slots s of a book, k of them used
 
@@ -84,27 +71,12 @@ module _ (b m : Bytes) where
 
 -- ---- what the rules on series stand on, and what is handed on
 
-no-slot : (y : Block) → seriesZerosInMessage y ≡ true → sendersSlot y ≡ 0
-unfolding seriesZerosInMessage sendersSlot number
-no-slot y e = value-zeros _ (and-left _ _ e)
-
-series-count : (m : Bytes) → length (seriesOf m) ≡ length m / 512 - 1
-unfolding seriesOf
-series-count m = omega (arith, cut-length 512 (drop 512 m), length-drop 512 m)
-
 pub taken : (b m : Bytes) {us series : List Block} → sound b ≡ true → rule2 m ≡ false → us ≡ used b → series ≡ seriesOf m → Taken us series
-unfolding rule2 messageRight wholeBlocks used seriesRight
+unfolding rule2
 taken b m q p e f =
     let s = sound-says b q in
-    let w : messageRight m ≡ true = neg-no _ p in
-    let k = and-left _ _ (and-left _ _ (and-left _ _ w)) in
-    let t : length m / 512 ≤ 201 = upto-yes _ _ (and-right _ _ k) in
-    record {
-      few = rw e (omega (arith, s .most, until-length isFree (slots b), slots-length b));
-      short = rw f (omega (arith, series-count m));
-      apart = rw e (s .series);
-      kinds = rw f (all-imply _ _ (λ y r. series-of-yes 0 y (and-left _ _ (and-left _ _ r)) (no-slot y (and-right _ _ (and-left _ _ r)))) (seriesOf m) (every-all _ _ (and-right _ _ w)));
-    }
+    let w = message-says m (neg-no _ p) in
+    record { few = rw e (used-few b s); short = rw f (series-some-few m w .1); apart = rw e (s .series); kinds = rw f (w .series-slots) }
 
 pub handed-none : {v : Verdict} {b m : Bytes} {many slot : ℕ} {places numbers : List ℕ} (n : ℕ) → v ≡ broken true (suc n) 0 0 → HandedIf v b m many slot places numbers
 unfolding broken

@@ -1,5 +1,4 @@
 -- What the proofs of an opening rest on.
-pub mod Bytes
 pub mod DayBlock
 pub mod Written
 pub mod Judged

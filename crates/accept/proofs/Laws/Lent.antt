@@ -1,17 +1,16 @@
 -- A part of a list that was lent and is back: one block, or the first blocks.
 use mathlib.Core.Path.{_≡_, sym, ap, ap₂, _∙_}
-use mathlib.Core.List.{List, [], _++_, map, append-assoc}
-use Prim.Native.Nat.{ℕ, suc, _+_, _-_, _*_, _/_, _≤_, _<_}
+use mathlib.Core.List.{List, [], _++_, append-assoc}
+use Prim.Native.Nat.{ℕ, _+_, _-_, _*_, _/_, _≤_, _<_}
 use native.Mathlib.Nat.{add-sub-cancel-left}
 use native.Mathlib.Omega.{arith}
-use lib.ListN.{length, take, drop, getD, set, length-map}
-use lib.Seq.{drop-drop, drop-cons, getD-at, length-take-le}
+use lib.ListN.{length, take, drop, getD, set}
+use lib.Seq.{drop-drop}
 use Rattle.laws.specs.Bytes.{written}
 use Rattle.laws.specs.Bytes.Laws.{written-take-drop}
 use Rattle.laws.specs.Cut.{cut}
-use Rattle.laws.specs.InPlace.{done}
+use Rattle.laws.specs.Cut.Laws.{width-blocks, block-length, cut-at, take-cut, cut-drop, cut-append, cut-put}
 use Rattle.slots.proofs.Laws.{block-some}
-use Rattle.laws.specs.Cut.Laws.{cut-put, cut-append, cut-drop, cut-at, take-cut, block-length, width-blocks}
 
 -- block i came back as f makes it of what it was
 pub cut-lent : (f : List ℕ → List ℕ) (b : List ℕ) (i : ℕ) {y : List ℕ} → 512 * i + 512 ≤ length b → y ≡ f (take (512 * i + 512 - 512 * i) (drop (512 * i) b)) → length y ≡ 512
@@ -35,11 +34,3 @@ cut-lent-first g b k y h e q =
 
 pub block-whole : (b : List ℕ) (i : ℕ) → i < length b / 512 → length (getD (cut 512 b) i []) ≡ 512
 block-whole b i h = ap length (cut-at 512 b i h) ∙ block-length 512 b i h
-
--- ---- a rewriting in place comes to a block that is as it was
-
-pub done-next : {X : Type 0} (g : List X → X → X) (l : List X) (i : ℕ) (d : X) → i < length l → getD (done g l i) i d ≡ getD l i d
-unfolding done
-done-next g l i d h =
-    let z : length (map (g l) (take i l)) ≡ i = length-map (take i l) (g l) ∙ length-take-le i l (omega arith) in
-    ap (λ w. getD (map (g l) (take i l) ++ w) i d) (drop-cons l i d h) ∙ getD-at (map (g l) (take i l)) (getD l i d) (drop (suc i) l) d i z

@@ -13,7 +13,7 @@ use Rattle.laws.specs.Tests.Laws.{split, is-no}
 use Rattle.laws.specs.Lists.{same, find, place, has}
 use Rattle.laws.specs.Lists.Search.{has-map, find-map, place-map}
 use Rattle.laws.specs.Loops.{placeFrom}
-use Rattle.laws.specs.InPlace.{done, done-seen}
+use Rattle.laws.specs.InPlace.{done, done-seen, done-next}
 use Rattle.paper.specs.Layout.{Bytes, Block, kind, sendersSlot, pair, quantities, withMark}
 use Rattle.paper.specs.Book.{isSeries, pairIs, isSeriesOfPair}
 use Rattle.paper.specs.Marks.{isCounterpart, counterpart, counterpartSlot, markIn}
@@ -21,7 +21,6 @@ use Rattle.paper.specs.Acceptance.{touched, remarked}
 use Rattle.facts.specs.Remarking.{kind-remarked, senders-slot-remarked, pair-remarked, quantities-remarked}
 use Rattle.index.specs.Linked.{bucket, seriesIn, Heads, Nexts, Links}
 use Rattle.accept.specs.Steps.{touchedBy, Other, Others}
-use Rattle.accept.proofs.Laws.Lent.{done-next}
 
 -- ---- what a mark is worked out from
 

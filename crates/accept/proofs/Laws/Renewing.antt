@@ -8,14 +8,13 @@ use Rattle.laws.specs.Tests.{_and_}
 use Rattle.laws.specs.Lists.{place, All}
 use Rattle.laws.specs.Lists.Each.{all-imply}
 use Rattle.laws.specs.Lists.Search.{has-no-find, place-agree, place-none, place-find}
-use Rattle.laws.specs.InPlace.{done}
+use Rattle.laws.specs.InPlace.{done, done-next}
 use Rattle.paper.specs.Layout.{Block, sender, pair, withSendersSlot}
 use Rattle.paper.specs.Book.{isSenderBlockOf, isSeriesOf, pairIs}
 use Rattle.paper.specs.Acceptance.{senderKept, replaced, renewed}
 use Rattle.index.specs.declared.By.the-variants.{Pair}
 use Rattle.index.specs.Linked.{keyOf, ownWith, Found}
 use Rattle.accept.specs.Steps.{Numbers}
-use Rattle.accept.proofs.Laws.Lent.{done-next}
 
 -- ---- the numbers that the judgement has found: a message names no sender's slot, so that its series are told by their pairs alone
 

@@ -8,13 +8,12 @@ use lib.ListN.{replicate}
 use Rattle.laws.specs.Tests.{_and_, is}
 use Rattle.laws.specs.Lists.{every}
 use Rattle.laws.specs.Bytes.{part, value, little, number}
-use Rattle.laws.specs.Bytes.Laws.{little-length, value-little}
+use Rattle.laws.specs.Bytes.Laws.{little-length, value-little, part-here, part-over}
 use Rattle.paper.specs.Check.{sealed}
 use Rattle.paper.specs.Layout.{Bytes, zeros, kind, nOf, lead, clockPlus10080, dayOfBook, area, receiver, dayZeros}
 use Rattle.paper.specs.Opening.{Opening, dayBlockOf}
 use Rattle.facts.specs.Check.{part-sealed}
 use Rattle.opening.specs.Sized.{Sized}
-use Rattle.opening.proofs.Laws.Bytes.{part-here, part-over}
 
 abbrev pub numbers : ℕ → ℕ → Bytes
 numbers n lead = 3 ∷ n ∷ little 2 lead ++ little 2 0 ++ little 2 0

@@ -10,7 +10,7 @@ use Rattle.laws.specs.Tests.Laws.{and-left, and-right, upto-yes}
 use Rattle.paper.specs.Layout.{Bytes}
 use Rattle.paper.specs.Ranges.{wholeBlocks}
 use Rattle.paper.specs.Opening.{Opening, dayBlockOf, openingAllowed, openNumber, opened}
-use Rattle.opening.proofs.Laws.Bytes.{zeros-split}
+use Rattle.laws.specs.Bytes.Laws.{zeros-split}
 
 -- the first block of a zeroed book, and the book once that is written
 pub zeros-front : (b : Bytes) {z : Bytes} → 512 ≤ length b → z ≡ replicate (length b) 0 → take 512 z ≡ replicate 512 0

@@ -9,7 +9,7 @@ use Rattle.paper.specs.Layout.{Bytes}
 use Rattle.paper.specs.Opening.{Opening, dayBlockOf}
 use Rattle.layout.specs.Written.{withFront, withDayFields}
 use Rattle.opening.specs.Sized.{Sized}
-use Rattle.opening.proofs.Laws.Bytes.{written-here, written-over}
+use Rattle.laws.specs.Bytes.Laws.{written-here, written-over}
 use Rattle.opening.proofs.Laws.DayBlock.{numbers, plain, day-block-plain}
 
 numbers-written : (n lead : ℕ) → written 2 (little 2 lead) (set (set (replicate 512 0) 0 3) 1 n) ≡ numbers n lead ++ replicate 504 0

@@ -6,12 +6,11 @@ use mathlib.Core.List.{List, []}
 use Prim.Native.Nat.{ℕ, zero, suc, _-_}
 use native.Mathlib.Omega.{arith}
 use lib.ListN.{getD}
-use Rattle.laws.specs.Tests.{is}
-use Rattle.laws.specs.Tests.Laws.{split, is-yes, is-no}
 use Rattle.laws.specs.Lists.{find, place}
 use Rattle.laws.specs.Lists.Search.{has-no-find, place-none, place-find}
 use Rattle.paper.specs.Layout.{Block}
 use Rattle.paper.specs.Book.{numbered}
+use Rattle.facts.specs.Book.{numbered-found}
 
 numbered-some : (l : List Block) (k : ℕ) → (k ≡ 0 → ⊥) → numbered l k ≡ getD l (k - 1) []
 unfolding numbered
@@ -26,9 +25,4 @@ module _ (p : Block → Bool) (l : List Block) (t : ℕ) (e : t ≡ place p l) w
   found-some z = place-find p l t e [] z ∙ ap some (sym (numbered-some l t z))
 
   pub found : {x : Block} → x ≡ numbered l t → x ≡ Option·getD (find p l) []
-  unfolding numbered
-  found {x} q =
-      split
-      (is t 0)
-      (λ h. let z : t ≡ 0 = is-yes _ _ h in q ∙ rw (z, found-none z))
-      (λ h. q ∙ rw (found-some (is-no _ _ h)))
+  found q = q ∙ ap (numbered l) e ∙ numbered-found p l
