@@ -1,10 +1,7 @@
 -- What the proofs of the code say of a book, beside the laws of the crates below.
 pub mod Lists
-pub mod Search
 pub mod Used
 pub mod Groups
 pub mod Book
-pub mod Next
-pub mod Links
 pub mod Tags
 pub mod Clear

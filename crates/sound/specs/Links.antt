@@ -2,11 +2,10 @@
 use mathlib.Core.Path.{_≡_}
 use mathlib.Core.Bool.{Bool, cond}
 use mathlib.Core.List.{List, []}
-use Prim.Native.Nat.{ℕ, _+_, _≤_, _<_}
-use lib.ListN.{length, drop, getD}
+use Prim.Native.Nat.{ℕ, _<_}
+use lib.ListN.{getD}
 use Rattle.laws.specs.Tests.{is}
 use Rattle.laws.specs.Lists.{All}
-use Rattle.laws.specs.Loops.{placeFrom}
 use Rattle.paper.specs.Layout.{Block, idOf, sender, sendersSlot, pair}
 use Rattle.paper.specs.Book.{isSeries}
 use Rattle.index.specs.Tags.{tagOf, pairTagOf}
@@ -18,19 +17,9 @@ group b = cond (isSeries b) (sendersSlot b) 0
 unfoldable pub inGroup : ℕ → Block → Bool
 inGroup g b = is (group b) g
 
--- every group has its place in the table of the first blocks
+-- every group has its bucket
 unfoldable pub Grouped : List Block → Type 0
-Grouped us = All (λ b. group b < 1001) us
-
--- ---- places are counted from 1, and 0 says that there is none
-
--- of each group the first block from i on
-unfoldable pub Heads : List Block → ℕ → List ℕ → Type 0
-Heads us i heads = (g : ℕ) → g < 1001 → getD heads g 0 ≡ placeFrom i (inGroup g) (drop i us)
-
--- of each block from i on the next of its group
-unfoldable pub Nexts : List Block → ℕ → List ℕ → Type 0
-Nexts us i nexts = (j : ℕ) → i ≤ j → j < length us → getD nexts j 0 ≡ placeFrom (j + 1) (inGroup (group (getD us j []))) (drop (j + 1) us)
+Grouped us = All (λ b. group b < 1024) us
 
 -- ---- numbers that differ where the ids, the pairs or the senders' EICs do, but for a chance
 

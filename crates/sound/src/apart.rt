@@ -7,10 +7,11 @@ ghost use Rattle.laws.specs.Tests.{neg};
 ghost use Rattle.laws.specs.Lists.{every, apart};
 ghost use Rattle.laws.specs.Cut.{cut};
 ghost use Rattle.paper.specs.Sound.{sameSender, sameSeries};
+ghost use Rattle.index.specs.Linked.{Nexts};
 ghost use Rattle.sound.specs.Used.{clashes};
-ghost use Rattle.sound.specs.Links.{Nexts, Tags};
-use super::links::wide;
+ghost use Rattle.sound.specs.Links.{inGroup, Tags};
 use field::same;
+use index::wide;
 use layout::id_of;
 use layout::pair;
 use layout::sender;
@@ -59,21 +60,21 @@ fn clear_of_later(
     pairs: &[u32; 1000],
     i: usize,
 ) -> bool
-    requires { ⌜ (length (now us) / 512 ≤ 1000) × Nexts (cut 512 (now us)) 0 (now nexts) × Tags (cut 512 (now us)) (length (now us) / 512) (now ids) (now pairs) × (i < length (now us) / 512) ⌝ }
+    requires { ⌜ (length (now us) / 512 ≤ 1000) × Nexts inGroup (cut 512 (now us)) 0 (now nexts) × Tags (cut 512 (now us)) (length (now us) / 512) (now ids) (now pairs) × (i < length (now us) / 512) ⌝ }
     ensures { λ r. ⌜ r ≡ every (λ y. neg (clashes (getD (cut 512 (now (us .entry))) i []) y)) (drop (i + 1) (cut 512 (now (us .entry)))) ⌝ }
 {
-    let mut at = i;
-    while nexts[at] != 0 {
-        at = wide(nexts[at]) - 1;
-        if clash_at(us, ids, pairs, i, at) {
+    let mut at = wide(nexts[i]);
+    while at != 0 {
+        if clash_at(us, ids, pairs, i, at - 1) {
             return false;
         }
+        at = wide(nexts[at - 1]);
     }
     true
 }
 
 pub fn blocks_apart(us: &[u8], nexts: &[u16; 1000], ids: &[u32; 1000], pairs: &[u32; 1000]) -> bool
-    requires { ⌜ (length (now us) / 512 ≤ 1000) × Nexts (cut 512 (now us)) 0 (now nexts) × Tags (cut 512 (now us)) (length (now us) / 512) (now ids) (now pairs) ⌝ }
+    requires { ⌜ (length (now us) / 512 ≤ 1000) × Nexts inGroup (cut 512 (now us)) 0 (now nexts) × Tags (cut 512 (now us)) (length (now us) / 512) (now ids) (now pairs) ⌝ }
     ensures { λ r. ⌜ r ≡ apart clashes (cut 512 (now (us .entry))) ⌝ }
 {
     let many = us.len() / 512;

@@ -6,34 +6,32 @@ ghost use Prim.Native.Nat.{_/_, _<_, _≤_};
 ghost use lib.ListN.{length, getD};
 ghost use Rattle.laws.specs.Lists.{every, apart, count};
 ghost use Rattle.laws.specs.Cut.{cut};
+ghost use Rattle.index.specs.Linked.{Links};
 ghost use Rattle.sound.specs.Used.{clashes, countRight};
-ghost use Rattle.sound.specs.Links.{inGroup, Heads, Nexts};
-use super::links::wide;
+ghost use Rattle.sound.specs.Links.{inGroup};
 use forms::ranges::count_allowed;
+use index::wide;
 use layout::series_count;
 use slots::block_at;
 use slots::is_sender;
 
 // How many blocks are in a group.
-fn count_of(us: &[u8], heads: &[u16; 1001], nexts: &[u16; 1000], g: usize) -> usize
-    requires { ⌜ (length (now us) / 512 ≤ 1000) × Heads (cut 512 (now us)) 0 (now heads) × Nexts (cut 512 (now us)) 0 (now nexts) × (g < 1001) ⌝ }
+fn count_of(us: &[u8], heads: &[u16; 1024], nexts: &[u16; 1000], g: usize) -> usize
+    requires { ⌜ (length (now us) / 512 ≤ 1000) × Links inGroup (cut 512 (now us)) 0 (now heads) (now nexts) × (g < 1024) ⌝ }
     ensures { λ r. ⌜ r ≡ count (inGroup g) (cut 512 (now (us .entry))) ⌝ }
 {
-    if heads[g] == 0 {
-        return 0;
-    }
-    let mut n: usize = 1;
-    let mut at = wide(heads[g]) - 1;
-    while nexts[at] != 0 {
-        at = wide(nexts[at]) - 1;
+    let mut n: usize = 0;
+    let mut at = wide(heads[g]);
+    while at != 0 {
         n += 1;
+        at = wide(nexts[at - 1]);
     }
     n
 }
 
 // Of the block at i, whose slot is i + 1.
-fn count_right(us: &[u8], heads: &[u16; 1001], nexts: &[u16; 1000], i: usize) -> bool
-    requires { ⌜ (length (now us) / 512 ≤ 1000) × Heads (cut 512 (now us)) 0 (now heads) × Nexts (cut 512 (now us)) 0 (now nexts) × (i < length (now us) / 512) × (apart clashes (cut 512 (now us)) ≡ true) ⌝ }
+fn count_right(us: &[u8], heads: &[u16; 1024], nexts: &[u16; 1000], i: usize) -> bool
+    requires { ⌜ (length (now us) / 512 ≤ 1000) × Links inGroup (cut 512 (now us)) 0 (now heads) (now nexts) × (i < length (now us) / 512) × (apart clashes (cut 512 (now us)) ≡ true) ⌝ }
     ensures { λ r. ⌜ r ≡ countRight (cut 512 (now (us .entry))) (getD (cut 512 (now (us .entry))) i []) ⌝ }
 {
     let b = block_at(us, i);
@@ -43,8 +41,8 @@ fn count_right(us: &[u8], heads: &[u16; 1001], nexts: &[u16; 1000], i: usize) ->
     count_allowed(series_count(b)) & (series_count(b) as usize == count_of(us, heads, nexts, i + 1))
 }
 
-pub fn counts_right(us: &[u8], heads: &[u16; 1001], nexts: &[u16; 1000]) -> bool
-    requires { ⌜ (length (now us) / 512 ≤ 1000) × Heads (cut 512 (now us)) 0 (now heads) × Nexts (cut 512 (now us)) 0 (now nexts) × (apart clashes (cut 512 (now us)) ≡ true) ⌝ }
+pub fn counts_right(us: &[u8], heads: &[u16; 1024], nexts: &[u16; 1000]) -> bool
+    requires { ⌜ (length (now us) / 512 ≤ 1000) × Links inGroup (cut 512 (now us)) 0 (now heads) (now nexts) × (apart clashes (cut 512 (now us)) ≡ true) ⌝ }
     ensures { λ r. ⌜ r ≡ every (countRight (cut 512 (now (us .entry)))) (cut 512 (now (us .entry))) ⌝ }
 {
     let many = us.len() / 512;

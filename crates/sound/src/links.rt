@@ -7,7 +7,8 @@ ghost use Prim.Native.Nat.{_/_, _≤_, _<_};
 ghost use lib.ListN.{length, getD};
 ghost use Rattle.laws.specs.Cut.{cut};
 ghost use Rattle.paper.specs.Layout.{zeros};
-ghost use Rattle.sound.specs.Links.{group, Grouped, Heads, Nexts, idTag, pairTag, Tags};
+ghost use Rattle.index.specs.Linked.{Links};
+ghost use Rattle.sound.specs.Links.{group, inGroup, Grouped, idTag, pairTag, Tags};
 use index::tags::pair_tag_of;
 use index::tags::tag_of;
 use layout::id_of;
@@ -20,7 +21,7 @@ use slots::is_series;
 // The group of the block at i.
 fn group_at(us: &[u8], i: usize) -> usize
     requires { ⌜ Grouped (cut 512 (now us)) × (i < length (now us) / 512) ⌝ }
-    ensures { λ r. ⌜ (r ≡ group (getD (cut 512 (now (us .entry))) i [])) × (r < 1001) ⌝ }
+    ensures { λ r. ⌜ (r ≡ group (getD (cut 512 (now (us .entry))) i [])) × (r < 1024) ⌝ }
 {
     let b = block_at(us, i);
     if is_series(b) {
@@ -29,37 +30,16 @@ fn group_at(us: &[u8], i: usize) -> usize
     0
 }
 
-// No group has a first block.
-pub fn no_heads() -> [u16; 1001]
-    ensures { λ r. ⌜ (zeros r ≡ true) × (length r ≡ 1001) ⌝ }
-{
-    [0; 1001]
-}
-
-// No block has a next one.
-pub fn no_nexts() -> [u16; 1000]
-    ensures { λ r. ⌜ length r ≡ 1000 ⌝ }
-{
-    [0; 1000]
-}
-
 pub fn no_tags() -> [u32; 1000]
     ensures { λ r. ⌜ length r ≡ 1000 ⌝ }
 {
     [0; 1000]
 }
 
-// A place in the width of an index.
-pub fn wide(place: u16) -> usize
-    ensures { λ r. ⌜ r ≡ place ⌝ }
-{
-    place as usize
-}
-
 // From the last block back: what was the group's first block is now its second.
-pub fn link(us: &[u8], heads: &mut [u16; 1001], nexts: &mut [u16; 1000])
-    requires { ⌜ (length (now us) / 512 ≤ 1000) × Grouped (cut 512 (now us)) × (zeros (now heads) ≡ true) × (length (now heads) ≡ 1001) × (length (now nexts) ≡ 1000) ⌝ }
-    ensures { λ _. ⌜ Heads (cut 512 (now (us .entry))) 0 (now (heads .exit)) × Nexts (cut 512 (now (us .entry))) 0 (now (nexts .exit)) ⌝ }
+pub fn link(us: &[u8], heads: &mut [u16; 1024], nexts: &mut [u16; 1000])
+    requires { ⌜ (length (now us) / 512 ≤ 1000) × Grouped (cut 512 (now us)) × (zeros (now heads) ≡ true) × (length (now heads) ≡ 1024) × (length (now nexts) ≡ 1000) ⌝ }
+    ensures { λ _. ⌜ Links inGroup (cut 512 (now (us .entry))) 0 (now (heads .exit)) (now (nexts .exit)) ⌝ }
 {
     let mut i = us.len() / 512;
     while 0 < i {

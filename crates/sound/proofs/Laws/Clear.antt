@@ -1,41 +1,47 @@
 -- A block clashes with none outside its group, so a walk along the group tells whether it clashes with any.
-use mathlib.Core.Path.{_≡_, sym, _∙_}
+use mathlib.Core.Path.{_≡_, refl, sym, ap, _∙_}
 use mathlib.Core.Bool.{Bool, true, false}
 use mathlib.Core.List.{List, []}
-use Prim.Native.Nat.{ℕ, _+_, _-_, _/_, _<_}
+use Prim.Native.Nat.{ℕ, _+_, _<_}
 use lib.ListN.{length, drop, getD}
 use Rattle.laws.specs.Tests.{_and_, neg}
 use Rattle.laws.specs.Tests.Laws.{split, clash, and-left, and-right, or-else, is-yes, neg-true, is-same, is-equal}
 use Rattle.laws.specs.Lists.{every}
-use Rattle.laws.specs.Cut.{cut}
-use Rattle.paper.specs.Layout.{Bytes, Block}
+use Rattle.paper.specs.Layout.{Block}
 use Rattle.paper.specs.Sound.{sameSender, sameSeries}
 use Rattle.facts.specs.Book.{sender-not-series}
+use Rattle.index.specs.Linked.Laws.{Skips, step-at}
 use Rattle.sound.specs.Used.{clashes}
-use Rattle.sound.specs.Links.{group, inGroup, Nexts}
-use Rattle.sound.proofs.Laws.Next.{last-judged, Next}
+use Rattle.sound.specs.Links.{group, inGroup}
 
-pub clash-group : (a b : Block) → clashes a b ≡ true → inGroup (group a) b ≡ true
+pub own-group : (a : Block) → inGroup (group a) a ≡ true
+unfolding inGroup
+own-group a = is-same (group a)
+
+clash-group : (a b : Block) → clashes a b ≡ true → inGroup (group a) b ≡ true
 unfolding clashes sameSender sameSeries inGroup group
 clash-group a b e =
     split (sameSender a b)
     (λ t. let u = and-left _ _ t in rw (sender-not-series a (and-left _ _ u), sender-not-series b (and-right _ _ u)) (is-same 0))
     (λ t. let u = and-left _ _ (or-else _ _ e t) in let v = and-left _ _ u in rw (and-left _ _ v, and-right _ _ v) (is-equal _ _ (sym (is-yes _ _ (and-right _ _ u)))))
 
-pub clear-outside : (a b : Block) → inGroup (group a) b ≡ false → neg (clashes a b) ≡ true
-clear-outside a b e = neg-true _ (split (clashes a b) (λ t. clash (clash-group a b t) e) (λ t. t))
+module _ (a : Block) where
+  -- it clashes with none of some blocks
+  abbrev pub clear : ℕ → List Block → Bool
+  clear k r = every (λ y. neg (clashes a y)) r
 
-module _ (s : Bytes) (a : Block) where
-  -- the next of the group is judged, and what stands before it needs no look
-  pub clear-go : {i n : ℕ} {w t : Bool} → Next s (group a) i n → w ≡ every (λ y. neg (clashes a y)) (drop i (cut 512 s)) → t ≡ clashes a (getD (cut 512 s) (n - 1) []) → t ≡ false
-      → w ≡ every (λ y. neg (clashes a y)) (drop (n - 1 + 1) (cut 512 s))
-  unfolding _and_ neg
-  clear-go x e q f = e ∙ x .judged (λ y. neg (clashes a y)) (clear-outside a) ∙ rw (sym q ∙ f)
+  pub clearing : Skips (inGroup (group a)) clear true
+  unfolding every _and_
+  clearing = record {
+    skip = λ k x xs e. let n : neg (clashes a x) ≡ true = neg-true _ (split (clashes a x) (λ t. clash (clash-group a x t) e) (λ t. t)) in rw n;
+    empty = λ k. refl;
+  }
 
-  pub clear-hit : {i n : ℕ} {w t : Bool} → Next s (group a) i n → w ≡ every (λ y. neg (clashes a y)) (drop i (cut 512 s)) → t ≡ clashes a (getD (cut 512 s) (n - 1) []) → t ≡ true → false ≡ w
-  unfolding _and_ neg
-  clear-hit x e q f = sym (e ∙ x .judged (λ y. neg (clashes a y)) (clear-outside a) ∙ rw (sym q ∙ f))
+  module _ (l : List Block) {k : ℕ} {w t : Bool} (e : w ≡ clear k (drop k l)) (h : k < length l) (q : t ≡ clashes a (getD l k [])) where
+    pub clear-go : t ≡ false → w ≡ clear (k + 1) (drop (k + 1) l)
+    unfolding every _and_ neg
+    clear-go f = e ∙ ap (clear k) (step-at l k h .rest) ∙ rw (sym q ∙ f)
 
-pub clear-end : (s : Bytes) (n : List ℕ) (a : Block) (at : ℕ) {w : Bool} → Nexts (cut 512 s) 0 n → at < length s / 512 → group (getD (cut 512 s) at []) ≡ group a → getD n at 0 ≡ 0
-    → w ≡ every (λ y. neg (clashes a y)) (drop (at + 1) (cut 512 s)) → true ≡ w
-clear-end s n a at m h g z e = sym (e ∙ last-judged s n at m h g z (λ y. neg (clashes a y)) (clear-outside a))
+    pub clear-hit : t ≡ true → false ≡ w
+    unfolding every _and_ neg
+    clear-hit f = sym (e ∙ ap (clear k) (step-at l k h .rest) ∙ rw (sym q ∙ f))

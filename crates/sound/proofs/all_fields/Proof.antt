@@ -1,5 +1,5 @@
 -- Those up to i are judged, and the rest gives what is left to judge.
-use Rattle.laws.specs.Kit.{needs, _≡_, _-_, _/_, length, drop, step-cut-at, end-cut}
+use Rattle.laws.specs.Kit.{needs, ap, _∙_, _≡_, _-_, _/_, length, drop, step-cut-at, end-cut}
 use Rattle.laws.specs.Tests.{_and_}
 use Rattle.laws.specs.Lists.{every}
 use Rattle.laws.specs.Cut.{cut}
@@ -15,7 +15,7 @@ abbrev μ-loop : tie.MeasureT-loop
 μ-loop table d us many ok₀ i₀ ok i = length us / 512 - i
 
 loop-again : tie.Need-loop-again Inv-loop μ-loop
-loop-again c = every-go _ _ (c .before .before .before .loop .inv) (step-cut-at _ _ _ (c .before .before .loop-test .taken)) (cc)
+loop-again c = every-go _ _ (c .before .before .before .loop .inv) (step-cut-at _ _ _ (c .before .before .loop-test .taken)) (c .used-fields .ensures ∙ ap (usedFields _ _) (c .before .block-at .ensures))
 
 pub all-fields-spec : {M : Type 1} → statement M
 all-fields-spec =

@@ -13,7 +13,7 @@ counts-right-requires : tie.Need-counts-right-requires
 counts-right-requires c κs =
     let a = c .before .before in
     let k = a .before .before .before .before .before .before .before .before .before .before in
-    (k .before .before .before .before .before .before .pre .0, k .link .ensures .0, k .link .ensures .1, told (a .before .blocks-apart .ensures) (a .if1 .left))
+    (k .before .before .before .before .before .before .pre .0, k .link .ensures, told (a .before .blocks-apart .ensures) (a .if1 .left))
 
 returns-2 : tie.Need-returns-2
 unfolding linkedSound _and_

@@ -9,13 +9,13 @@ returns : tie.Need-returns
 unfolding usedFields _and_
 returns c =
     let t = c .before .before in
-    rw (sym (t .before .is-sender .ensures) ∙ t .if1 .taken) (cc)
+    rw (sym (t .before .is-sender .ensures) ∙ t .if1 .taken) (simp (c .sender-day .ensures, c .before .sender-fields .ensures))
 
 returns-2 : tie.Need-returns-2
 unfolding usedFields _and_
 returns-2 c =
     let t = c .before .before in
-    rw (sym (t .before .is-sender .ensures) ∙ t .if1 .left) (cc)
+    rw (sym (t .before .is-sender .ensures) ∙ t .if1 .left) (simp (c .series-sound .ensures, c .before .is-series .ensures))
 
 pub used-fields-spec : {M : Type 1} → statement M
 used-fields-spec =

@@ -1,60 +1,80 @@
 -- Between a block and the next of its group stand only blocks of other groups, which cannot clash with it.
-use Rattle.laws.specs.Kit.{needs, arith, _≡_, refl, [], _<_, _-_, _+_, _/_, length, drop, getD}
-use Rattle.laws.specs.Tests.{neg}
-use Rattle.laws.specs.Lists.{every}
+use Rattle.laws.specs.Kit.{needs, arith, refl, sym, true, [], _+_, drop, getD}
 use Rattle.laws.specs.Cut.{cut}
-use Rattle.sound.specs.Used.{clashes}
-use Rattle.sound.specs.Links.{group}
-use Rattle.sound.proofs.Laws.Next.{onward}
-use Rattle.sound.proofs.Laws.Clear.{clear-go, clear-hit, clear-end}
+use Rattle.laws.specs.Cut.Laws.{cut-length}
+use Rattle.index.specs.Linked.Laws.{Walk, left, walk-next, walk-nearer, walk-inside}
+use Rattle.sound.specs.Links.{group, inGroup}
+use Rattle.sound.proofs.Laws.Clear.{own-group, clear, clearing, clear-go, clear-hit}
 use Rattle.sound.proofs.apart.clear_of_later.Statement.{statement}
 use Rattle.sound.proofs.apart.clear_of_later.Tie as tie
 
 abbrev Inv-loop : tie.InvT-loop
 Inv-loop us nexts ids pairs i at₀ at =
-    (at < length us / 512) × (group (getD (cut 512 us) at []) ≡ group (getD (cut 512 us) i []))
-    × (every (λ y. neg (clashes (getD (cut 512 us) i []) y)) (drop (i + 1) (cut 512 us)) ≡ every (λ y. neg (clashes (getD (cut 512 us) i []) y)) (drop (at + 1) (cut 512 us)))
+    Walk (inGroup (group (getD (cut 512 us) i []))) (clear (getD (cut 512 us) i [])) true (cut 512 us) (clear (getD (cut 512 us) i []) (i + 1) (drop (i + 1) (cut 512 us))) at
 
 abbrev μ-loop : tie.MeasureT-loop
-μ-loop us nexts ids pairs i at₀ at = length us / 512 - at
+μ-loop us nexts ids pairs i at₀ at = left at
 
 loop-holds : tie.Need-loop-holds Inv-loop μ-loop
-loop-holds c = (search needs, refl, refl)
+loop-holds c =
+    let p = c .before .before .before .pre in
+    walk-next inGroup _ _ _ _ (clearing _) _ (p .1) _ (rw (cut-length 512 _) (p .3)) (own-group _) (c .wide .ensures) refl
 
 clash-at-requires : tie.Need-clash-at-requires Inv-loop μ-loop
 clash-at-requires c κs =
-    let l = c .before .before .before .before in
-    let p = l .before .before .pre in
-    let x = onward _ _ _ (p .1) (l .loop .inv .0) (l .loop .inv .1) (c .wide .ensures) (c .before .before .if1 .taken) in
-    (search needs, p .2, search needs, x .inside)
+    let l = c .before in
+    let p = l .before .before .before .before .pre in
+    (p .0, p .2, p .3, rw (cut-length 512 _) at (l .loop .inv .inside (c .loop-test .taken)))
 
 returns : tie.Need-returns Inv-loop μ-loop
 returns c =
-    let w = c .before .before in
-    let l = w .before .before .before .before in
-    let x = onward _ _ _ (l .before .before .pre .1) (l .loop .inv .0) (l .loop .inv .1) (w .wide .ensures) (w .before .before .if1 .taken) in
-    clear-hit _ _ x (l .loop .inv .2) (c .before .clash-at .ensures) (c .if2 .taken)
+    let b = c .before in
+    let t = b .before in
+    let o = t .before .loop .inv in
+    let n = t .loop-test .taken in
+    clear-hit _ _ (o .rest n) (o .inside n) (b .clash-at .ensures) (c .if1 .taken)
+
+next-inside : tie.Need-element-copy-out-wide-2 Inv-loop μ-loop
+next-inside c =
+    let t = c .before .before in
+    let l = t .before in
+    walk-inside _ (l .before .before .before .before .pre .0) (l .loop .inv) (t .loop-test .taken)
 
 loop-less : tie.Need-loop-less Inv-loop μ-loop
 loop-less c =
-    let w = c .before .before in
-    let l = w .before .before .before .before in
-    let x = onward _ _ _ (l .before .before .pre .1) (l .loop .inv .0) (l .loop .inv .1) (w .wide .ensures) (w .before .before .if1 .taken) in
-    omega (arith, x .later, x .inside)
+    let t = c .before .before .before .before in
+    let l = t .before in
+    let p = l .before .before .before .before .pre in
+    walk-nearer inGroup _ _ _ _ (clearing _) _ (p .1) (p .0) (l .loop .inv) (t .loop-test .taken) (c .wide2 .ensures)
 
 loop-again : tie.Need-loop-again Inv-loop μ-loop
 loop-again c =
-    let w = c .before .before in
-    let l = w .before .before .before .before in
-    let x = onward _ _ _ (l .before .before .pre .1) (l .loop .inv .0) (l .loop .inv .1) (w .wide .ensures) (w .before .before .if1 .taken) in
-    (x .inside, x .of-group, clear-go _ _ x (l .loop .inv .2) (c .before .clash-at .ensures) (c .if2 .left))
-
-returns-2 : tie.Need-returns-2 Inv-loop μ-loop
-returns-2 c =
-    let l = c .before .before in
-    clear-end _ _ _ _ (l .before .before .pre .1) (l .loop .inv .0) (l .loop .inv .1) (c .if1 .left) (l .loop .inv .2)
+    let e = c .before .before in
+    let b = e .before in
+    let t = b .before in
+    let l = t .before in
+    let o = l .loop .inv in
+    let n = t .loop-test .taken in
+    walk-next inGroup _ _ _ _ (clearing _) _ (l .before .before .before .before .pre .1) _ (o .inside n) (o .linked n) (c .wide2 .ensures)
+    (clear-go _ _ (o .rest n) (o .inside n) (b .clash-at .ensures) (e .if1 .left))
 
 pub clear-of-later-spec : {M : Type 1} → statement M
 clear-of-later-spec =
     tie.close
-    (tie.spec Inv-loop μ-loop loop-holds (search needs) (search needs) (search needs) (search needs) (λ c κs. search needs) (search needs) clash-at-requires returns loop-less loop-again returns-2)
+    (tie.spec
+    Inv-loop
+    μ-loop
+    (λ c. omega arith)
+    (λ c. omega arith)
+    (λ c κs. search needs)
+    loop-holds
+    (λ c. omega arith)
+    clash-at-requires
+    returns
+    (λ c. omega arith)
+    (λ c. let i = next-inside c in omega arith)
+    next-inside
+    (λ c κs. search needs)
+    loop-less
+    loop-again
+    (λ c. sym (c .before .loop .inv .last (c .loop-test .left))))

@@ -1,16 +1,17 @@
 -- The tag is the check of the bytes that the definition chooses.
-use Rattle.laws.specs.Kit.{needs, sym, _∙_}
+use Rattle.laws.specs.Kit.{needs, sym, ap, _∙_}
+use Rattle.index.specs.Tags.{tagOf}
 use Rattle.sound.specs.Links.{idTag}
 use Rattle.sound.proofs.links.id_tag.Statement.{statement}
 use Rattle.sound.proofs.links.id_tag.Tie as tie
 
 returns : tie.Need-returns
 unfolding idTag
-returns c = rw (sym (c .before .before .before .is-series .ensures) ∙ c .before .before .if1 .taken) (cc)
+returns c = rw (sym (c .before .before .before .is-series .ensures) ∙ c .before .before .if1 .taken) (c .tag-of .ensures ∙ ap tagOf (c .before .id-of .ensures))
 
 returns-2 : tie.Need-returns-2
 unfolding idTag
-returns-2 c = rw (sym (c .before .before .before .is-series .ensures) ∙ c .before .before .if1 .left) (cc)
+returns-2 c = rw (sym (c .before .before .before .is-series .ensures) ∙ c .before .before .if1 .left) (c .tag-of2 .ensures ∙ ap tagOf (c .before .sender .ensures))
 
 pub id-tag-spec : {M : Type 1} → statement M
 id-tag-spec =
