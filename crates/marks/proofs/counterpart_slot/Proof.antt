@@ -1,5 +1,5 @@
 -- The search stands at a series of the pair's bucket, and what it has passed by is no counterpart.
-use Rattle.laws.specs.Kit.{needs, arith, sym, _∙_}
+use Rattle.laws.specs.Kit.{arith, sym, _∙_}
 use Rattle.laws.specs.Lists.{place}
 use Rattle.laws.specs.Cut.{cut}
 use Rattle.paper.specs.Marks.{isCounterpart, counterpartSlot}
@@ -64,4 +64,24 @@ returns-2 c =
 pub counterpart-slot-spec : {M : Type 1} → statement M
 counterpart-slot-spec =
     tie.close
-    (tie.spec Inv-loop μ-loop (λ c κs. search needs) (λ c κs. search needs) (λ c κs. search needs) (search needs) (search needs) (λ c κs. search needs) loop-holds (search needs) (λ c κs. search needs) (λ c κs. search needs) returns (search needs) (λ c. let i = next-inside c in omega arith) next-inside (λ c κs. search needs) loop-less loop-again returns-2)
+    (tie.spec
+    Inv-loop
+    μ-loop
+    (λ c κs. tt)
+    (λ c κs. tt)
+    (λ c κs. tt)
+    (λ c. omega arith)
+    (λ c. omega arith)
+    (λ c κs. tt)
+    loop-holds
+    (λ c. omega arith)
+    (λ c κs. tt)
+    (λ c κs. tt)
+    returns
+    (λ c. omega arith)
+    (λ c. let i = next-inside c in omega arith)
+    next-inside
+    (λ c κs. tt)
+    loop-less
+    loop-again
+    returns-2)

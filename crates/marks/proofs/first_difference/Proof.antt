@@ -39,16 +39,16 @@ first-difference-spec =
     (tie.spec
     Inv-loop
     μ-loop
-    (λ c κs. search needs)
-    (λ c κs. search needs)
-    (λ c κs. search needs)
+    (λ c κs. tt)
+    (λ c κs. tt)
+    (λ c κs. tt)
     agree
     (λ c. (search needs, difference-start _ _ _))
     (λ c κs. search needs)
     (λ c κs. search needs)
-    (search needs)
+    (λ c. omega arith)
     hit
-    (search needs)
-    (search needs)
+    (λ c. omega arith)
+    (λ c. omega arith)
     more
     end)

@@ -1,5 +1,5 @@
 -- Without a counterpart the series stands alone; with one, the first difference tells matched from mismatched.
-use Rattle.laws.specs.Kit.{needs}
+use Rattle.laws.specs.Kit.{needs, arith}
 use Rattle.laws.specs.Bytes.{little}
 use Rattle.marks.proofs.Laws.{mark-alone, mark-matched, mark-mismatched}
 use Rattle.marks.proofs.mark_in.Statement.{statement}
@@ -25,12 +25,12 @@ mark-in-spec =
     (tie.spec
     (λ c κs. search needs)
     (λ c. mark-alone _ _ _ _ (c .before .counterpart-slot .ensures) (c .if1 .taken))
+    (λ c κs. tt)
     (λ c κs. search needs)
-    (λ c κs. search needs)
-    (search needs)
-    (search needs)
+    (λ c. omega arith)
+    (λ c. omega arith)
     matched
-    (search needs)
-    (search needs)
-    (search needs)
+    (λ c. omega arith)
+    (λ c. omega arith)
+    (λ c. omega arith)
     mismatched)

@@ -1,5 +1,5 @@
 -- No series passes; a series passes if its mark has the bytes of the mark worked out afresh.
-use Rattle.laws.specs.Kit.{needs, told, denied}
+use Rattle.laws.specs.Kit.{needs, arith, told, denied}
 use Rattle.laws.specs.Tests.{_or_, neg}
 use Rattle.paper.specs.PlainRun.{markTrue}
 use Rattle.marks.proofs.mark_true.Statement.{statement}
@@ -17,4 +17,11 @@ compared c =
 
 pub mark-true-spec : {M : Type 1} → statement M
 mark-true-spec =
-    tie.close (tie.spec (λ c κs. search needs) no-series (λ c κs. search needs) (λ c κs. search needs) (search needs) (λ c κs. search needs) compared)
+    tie.close (tie.spec
+    (λ c κs. tt)
+    no-series
+    (λ c κs. search needs)
+    (λ c κs. tt)
+    (λ c. omega arith)
+    (λ c κs. tt)
+    compared)

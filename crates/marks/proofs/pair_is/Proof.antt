@@ -1,5 +1,4 @@
 -- The bytes compared are the pair.
-use borrow.Author.Needs.{needs}
 use Rattle.paper.specs.Book.{pairIs}
 use Rattle.marks.proofs.pair_is.Statement.{statement}
 use Rattle.marks.proofs.pair_is.Tie as tie
@@ -9,4 +8,7 @@ unfolding pairIs
 returns c = cc
 
 pub pair-is-spec : {M : Type 1} → statement M
-pair-is-spec = tie.close (tie.spec (λ c κs. search needs) (λ c κs. search needs) returns)
+pair-is-spec = tie.close (tie.spec
+    (λ c κs. tt)
+    (λ c κs. tt)
+    returns)

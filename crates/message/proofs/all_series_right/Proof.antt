@@ -1,5 +1,5 @@
 -- What is found so far, with the test of the series left, is the test of all.
-use Rattle.laws.specs.Kit.{_-_, _/_, _≡_, _≤_, arith, drop, end-cut, length, needs, step-cut-at}
+use Rattle.laws.specs.Kit.{_-_, _/_, _≡_, _≤_, arith, drop, end-cut, length, step-cut-at}
 use Rattle.laws.specs.Cut.{cut}
 use Rattle.laws.specs.Lists.{every}
 use Rattle.laws.specs.Loops.{every-end, every-go, every-start}
@@ -21,9 +21,9 @@ all-series-right-spec =
     Inv-loop
     μ-loop
     (λ c. (omega arith, every-start _ _))
-    (search needs)
-    (search needs)
-    (search needs)
-    (search needs)
+    (λ c κs. tt)
+    (λ c κs. tt)
+    (λ c. omega arith)
+    (λ c. omega arith)
     (λ c. let turn = c .before .before in (omega arith, every-go _ (turn .before .loop .right) (turn .before .loop .inv .1) (step-cut-at _ _ _ (turn .loop-test .taken)) (cc)))
     (λ c. every-end _ _ (c .before .loop .inv .1) (end-cut _ _ _ (c .loop-test .left))))

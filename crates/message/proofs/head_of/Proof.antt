@@ -1,5 +1,5 @@
 -- The first 512 bytes are the part that starts at 0.
-use Rattle.laws.specs.Kit.{needs}
+use Rattle.laws.specs.Kit.{arith}
 use Rattle.laws.specs.Bytes.{part}
 use Rattle.paper.specs.Message.{headOf}
 use Rattle.message.proofs.head_of.Statement.{statement}
@@ -10,5 +10,5 @@ unfolding headOf part
 head-of-spec =
     tie.close
     (tie.spec
-    (search needs)
+    (λ c. omega arith)
     (λ c. c .part-of .ensures))

@@ -1,5 +1,5 @@
 -- The three tests are joined as the definition joins them.
-use Rattle.laws.specs.Kit.{needs}
+use Rattle.laws.specs.Kit.{arith}
 use Rattle.laws.specs.Tests.{_and_, is}
 use Rattle.paper.specs.Message.{headRight}
 use Rattle.message.proofs.head_right.Statement.{statement}
@@ -10,8 +10,8 @@ unfolding headRight _and_ is
 head-right-spec =
     tie.close
     (tie.spec
-    (search needs)
-    (search needs)
-    (search needs)
-    (search needs)
-    (λ c. cc))
+    (λ c κs. tt)
+    (λ c κs. tt)
+    (λ c. omega arith)
+    (λ c κs. tt)
+    (λ c. simp (c .sender-zeros-in-message .ensures, c .before .series-count .ensures, c .before .before .is-sender .ensures)))

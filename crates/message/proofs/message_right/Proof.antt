@@ -1,5 +1,5 @@
 -- The first test that fails refuses the message; past the length and the checks, head and series decide.
-use Rattle.laws.specs.Kit.{denied, needs, told}
+use Rattle.laws.specs.Kit.{denied, told}
 use Rattle.message.proofs.Laws.{check-wrong, length-wrong, right-by}
 use Rattle.message.proofs.message_right.Statement.{statement}
 use Rattle.message.proofs.message_right.Tie as tie
@@ -16,12 +16,12 @@ pub message-right-spec : {M : Type 1} → statement M
 message-right-spec =
     tie.close
     (tie.spec
-    (search needs)
+    (λ c κs. tt)
     (λ c. length-wrong _ (denied (c .before .whole-blocks .ensures) (c .if1 .taken)))
-    (search needs)
+    (λ c κs. tt)
     (λ c. let k = c .before in check-wrong _ (told (k .before .before .whole-blocks .ensures) (k .before .if1 .left)) (denied (k .checks-right .ensures) (c .if2 .taken)))
-    (search needs)
-    (search needs)
-    (search needs)
-    (search needs)
+    (λ c κs. tt)
+    (λ c κs. tt)
+    (λ c κs. tt)
+    (λ c κs. tt)
     returns-3)

@@ -1,5 +1,5 @@
 -- Rule 2 is broken where the message is not right.
-use Rattle.laws.specs.Kit.{ap, needs, not}
+use Rattle.laws.specs.Kit.{ap, not}
 use Rattle.laws.specs.Tests.{neg}
 use Rattle.paper.specs.Message.{rule2}
 use Rattle.message.proofs.rule_2.Statement.{statement}
@@ -10,5 +10,5 @@ unfolding rule2 neg
 rule-2-spec =
     tie.close
     (tie.spec
-    (search needs)
+    (λ c κs. tt)
     (λ c. ap not (c .message-right .ensures)))

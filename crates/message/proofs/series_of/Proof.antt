@@ -1,5 +1,5 @@
 -- The part from 512 that may be as long as the whole goes to the end.
-use Rattle.laws.specs.Kit.{_∙_, ap, arith, needs}
+use Rattle.laws.specs.Kit.{_∙_, ap, arith}
 use Rattle.laws.specs.Bytes.Laws.{part-rest}
 use Rattle.laws.specs.Cut.{cut}
 use Rattle.paper.specs.Message.{seriesOf}
@@ -11,5 +11,5 @@ unfolding seriesOf
 series-of-spec =
     tie.close
     (tie.spec
-    (search needs)
+    (λ c. omega arith)
     (λ c. ap (cut 512) (c .part-of .ensures ∙ part-rest 512 _ _ (omega arith))))

@@ -1,5 +1,4 @@
 -- The three tests are joined as the definition joins them.
-use Rattle.laws.specs.Kit.{needs}
 use Rattle.laws.specs.Tests.{_and_, is}
 use Rattle.paper.specs.Message.{seriesRight}
 use Rattle.message.proofs.series_right.Statement.{statement}
@@ -10,8 +9,8 @@ unfolding seriesRight _and_ is
 series-right-spec =
     tie.close
     (tie.spec
-    (search needs)
-    (search needs)
-    (search needs)
-    (search needs)
-    (λ c. cc))
+    (λ c κs. tt)
+    (λ c κs. tt)
+    (λ c κs. tt)
+    (λ c κs. tt)
+    (λ c. simp (c .n-of2 .ensures, c .before .n-of .ensures, c .before .before .series-zeros-in-message .ensures, c .before .before .before .is-series .ensures)))

@@ -26,9 +26,9 @@ every-mark-true-spec =
     Inv-loop
     μ-loop
     (λ c. (omega arith, every-start _ _))
+    (λ c κs. tt)
     (λ c κs. search needs)
-    (λ c κs. search needs)
-    (search needs)
-    (search needs)
+    (λ c. omega arith)
+    (λ c. omega arith)
     more
     (λ c. every-end _ _ (c .before .loop .inv .1) (end-cut _ _ _ (c .loop-test .left))))

@@ -1,5 +1,5 @@
 -- In a sound book the marks and nets of the used slots are looked at; n is at most 100, and there are no more than 1,000 slots.
-use Rattle.laws.specs.Kit.{needs, arith, told, denied}
+use Rattle.laws.specs.Kit.{arith, told, denied}
 use Rattle.plain_run.proofs.Laws.{sound-length, sound-n, n-day, not-sound, found}
 use Rattle.plain_run.proofs.plain_run.Statement.{statement}
 use Rattle.plain_run.proofs.plain_run.Tie as tie
@@ -30,12 +30,12 @@ pub plain-run-spec : {M : Type 1} → statement M
 plain-run-spec =
     tie.close
     (tie.spec
-    (λ c κs. search needs)
+    (λ c κs. tt)
     (λ c. not-sound _ (denied (c .before .sound .ensures) (c .if1 .taken)))
-    (λ c κs. search needs)
-    (λ c κs. search needs)
-    (search needs)
-    (λ c κs. search needs)
+    (λ c. omega arith)
+    (λ c κs. tt)
+    (λ c. omega arith)
+    (λ c κs. tt)
     marks-requires
     nets-requires
     answer)

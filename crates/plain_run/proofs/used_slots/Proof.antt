@@ -10,12 +10,12 @@ pub used-slots-spec : {M : Type 1} → statement M
 used-slots-spec =
     tie.close
     (tie.spec
-    (search needs)
+    (λ c. omega arith)
     (λ c. (used-none _ (c .before .if1 .taken), search needs))
-    (search needs)
-    (search needs)
-    (search needs)
-    (λ c κs. search needs)
-    (search needs)
+    (λ c. omega arith)
+    (λ c. omega arith)
+    (λ c. omega arith)
+    (λ c κs. tt)
+    (λ c. omega arith)
     (λ c. sym (length-take-le _ _ (c .before .used-count .ensures .1)))
     (λ c. (used-part _ _ (c .before .used-count .ensures .0), simp (length-take, length-drop) (omega arith))))
