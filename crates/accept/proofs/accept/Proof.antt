@@ -37,15 +37,15 @@ pub accept-spec : {M : Type 1} → statement M
 accept-spec =
     tie.close
     (tie.spec
-    (λ c κs. search needs)
-    (search needs)
-    (search needs)
-    (search needs)
-    (search needs)
+    (λ c κs. tt)
+    (λ c. omega arith)
+    (λ c. omega arith)
+    (λ c. omega arith)
+    (λ c. omega arith)
     head-part
     series-start
     series-part
-    (search needs)
+    (λ c. omega arith)
     accept-into-requires
     (search needs)
     returns)

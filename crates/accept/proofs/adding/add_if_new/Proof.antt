@@ -35,4 +35,14 @@ stored c =
 pub add-if-new-spec : {M : Type 1} → statement M
 add-if-new-spec =
     tie.close
-    (tie.spec (search needs) (search needs) (search needs) (search needs) free-end (λ c κs. search needs) (search needs) (search needs) new stored)
+    (tie.spec
+    (λ c. omega arith)
+    (λ c. omega arith)
+    (λ c. omega arith)
+    (λ c. omega arith)
+    free-end
+    (λ c. omega arith)
+    (λ c. omega arith)
+    (search needs)
+    new
+    stored)

@@ -36,4 +36,14 @@ known c =
 pub add-sender-spec : {M : Type 1} → statement M
 add-sender-spec =
     tie.close
-    (tie.spec (search needs) (search needs) (search needs) (search needs) part-end (λ c κs. search needs) (search needs) (search needs) new known)
+    (tie.spec
+    (λ c. omega arith)
+    (λ c. omega arith)
+    (λ c. omega arith)
+    (λ c. omega arith)
+    part-end
+    (λ c. omega arith)
+    (λ c. omega arith)
+    (search needs)
+    new
+    known)

@@ -54,4 +54,17 @@ returns c =
 pub add-series-spec : {M : Type 1} → statement M
 add-series-spec =
     tie.close
-    (tie.spec Inv-loop μ-loop loop-holds (λ c κs. search needs) (search needs) (search needs) (λ c κs. search needs) add-if-new-requires (search needs) (search needs) loop-again (search needs) returns)
+    (tie.spec
+    Inv-loop
+    μ-loop
+    loop-holds
+    (λ c κs. tt)
+    (λ c. omega arith)
+    (λ c. omega arith)
+    (λ c κs. tt)
+    add-if-new-requires
+    (λ c. omega arith)
+    (λ c. omega arith)
+    loop-again
+    (search needs)
+    returns)

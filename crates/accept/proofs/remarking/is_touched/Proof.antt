@@ -1,5 +1,5 @@
 -- The first of the tests that decides is the definition's.
-use Rattle.laws.specs.Kit.{needs, sym, _∙_, told, denied}
+use Rattle.laws.specs.Kit.{sym, _∙_, told, denied}
 use Rattle.laws.specs.Tests.{_and_, _or_, neg, is}
 use Rattle.laws.specs.Tests.Laws.{is-equal, is-other}
 use Rattle.accept.specs.Steps.{touchedBy}
@@ -27,4 +27,9 @@ by-number c =
     rw (told (k .is-series .ensures) (e .if1 .left), is-other _ _ (λ q. c .if2 .left (s .senders-slot .ensures ∙ q)))
 
 pub is-touched-spec : {M : Type 1} → statement M
-is-touched-spec = tie.close (tie.spec (λ c κs. search needs) no-series (λ c κs. search needs) own by-number)
+is-touched-spec = tie.close (tie.spec
+    (λ c κs. tt)
+    no-series
+    (λ c κs. tt)
+    own
+    by-number)

@@ -25,17 +25,17 @@ pub remark-spec : {M : Type 1} → statement M
 remark-spec =
     tie.close
     (tie.spec
+    (λ c κs. tt)
+    (λ c κs. tt)
+    (λ c κs. tt)
     (λ c κs. search needs)
-    (λ c κs. search needs)
-    (λ c κs. search needs)
-    (λ c κs. search needs)
-    (search needs)
-    (search needs)
-    (search needs)
-    (search needs)
-    (search needs)
-    (search needs)
-    (λ c κs. search needs)
+    (λ c. omega arith)
+    (λ c. omega arith)
+    (λ c. omega arith)
+    (λ c. omega arith)
+    (λ c. omega arith)
+    (λ c. omega arith)
+    (λ c. omega arith)
     (search needs)
     touched
     (search needs)

@@ -46,4 +46,16 @@ returns c =
 pub remark-each-spec : {M : Type 1} → statement M
 remark-each-spec =
     tie.close
-    (tie.spec Inv-loop μ-loop loop-holds (search needs) (search needs) (λ c κs. search needs) remark-requires (search needs) (search needs) loop-again (search needs) returns)
+    (tie.spec
+    Inv-loop
+    μ-loop
+    loop-holds
+    (λ c. omega arith)
+    (λ c. omega arith)
+    (λ c κs. tt)
+    remark-requires
+    (λ c. omega arith)
+    (λ c. omega arith)
+    loop-again
+    (search needs)
+    returns)

@@ -54,16 +54,16 @@ pub renew-spec : {M : Type 1} → statement M
 renew-spec =
     tie.close
     (tie.spec
-    (λ c κs. search needs)
-    (λ c κs. search needs)
-    (λ c κs. search needs)
+    (λ c κs. tt)
+    (λ c κs. tt)
+    (λ c. omega arith)
     (search needs)
     the-sender
-    (λ c κs. search needs)
+    (λ c κs. tt)
     (search needs)
     absent
-    (search needs)
-    (λ c κs. search needs)
+    (λ c. omega arith)
+    (λ c κs. tt)
     write-series-requires
     (search needs)
     a-series

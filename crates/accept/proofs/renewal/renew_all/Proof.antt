@@ -59,17 +59,17 @@ renew-all-spec =
     Inv-loop
     μ-loop
     loop-holds
-    (search needs)
-    (search needs)
-    (λ c κs. search needs)
-    (search needs)
-    (search needs)
-    (search needs)
-    (search needs)
-    (search needs)
+    (λ c. omega arith)
+    (λ c. omega arith)
+    (λ c κs. tt)
+    (λ c. omega arith)
+    (λ c. omega arith)
+    (λ c. omega arith)
+    (λ c. omega arith)
+    (λ c. omega arith)
     renew-requires
-    (search needs)
-    (search needs)
+    (λ c. omega arith)
+    (λ c. omega arith)
     loop-again
     (search needs)
     returns)

@@ -1,5 +1,5 @@
 -- A row written over one of its own length is that row; its nets are written into it, and the check is taken of the block with them.
-use Rattle.laws.specs.Kit.{needs, sym}
+use Rattle.laws.specs.Kit.{needs, arith, sym}
 use denote.Ref.{now}
 use Rattle.laws.specs.Bytes.Laws.{written-all}
 use Rattle.paper.specs.Layout.{withNets}
@@ -15,4 +15,10 @@ returns c =
 
 pub write-sender-spec : {M : Type 1} → statement M
 write-sender-spec =
-    tie.close (tie.spec (λ c κs. search needs) (λ c κs. search needs) (λ c κs. search needs) (λ c κs. search needs) (search needs) returns)
+    tie.close (tie.spec
+    (λ c. omega arith)
+    (λ c κs. tt)
+    (λ c. omega arith)
+    (λ c κs. tt)
+    (search needs)
+    returns)
