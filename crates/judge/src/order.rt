@@ -1,5 +1,6 @@
 // Verdicts in order: the first refusal wins.
 ghost use mathlib.Core.Path.{_≡_};
+ghost use Prim.Native.Nat.{_+_, _<_};
 ghost use Rattle.paper.specs.Rules.{fine, broken, _then_};
 use codes::reason_code;
 use paper::Position;
@@ -40,4 +41,19 @@ pub fn then(v: Verdict, w: Verdict) -> Verdict
         return w;
     }
     v
+}
+
+// Of four rules whose numbers follow each other, the first that is broken.
+pub fn first_of_four(a: bool, b: bool, c: bool, d: bool, number: u32, series: usize) -> Verdict
+    requires { ⌜ number < 1000 ⌝ }
+    ensures { λ r. ⌜ r ≡ (broken a number series 0 then broken b (number + 1) series 0 then broken c (number + 2) series 0 then broken d (number + 3) series 0) ⌝ }
+{
+    let last = then(
+        broken(c, number + 2, series, 0),
+        broken(d, number + 3, series, 0),
+    );
+    then(
+        broken(a, number, series, 0),
+        then(broken(b, number + 1, series, 0), last),
+    )
 }

@@ -1,11 +1,9 @@
 -- Counts as the code makes them.
-use mathlib.Core.Path.{_≡_, refl, ap, _∙_}
+use mathlib.Core.Path.{_≡_, refl}
 use mathlib.Core.Bool.{Bool, true, false, cond, not}
-use mathlib.Core.List.{List, [], _∷_, _++_}
+use mathlib.Core.List.{List, [], _∷_}
 use Prim.Native.Nat.{ℕ, _+_, _<_}
-use native.Mathlib.Omega.{arith}
 use lib.ListN.{length, take, getD}
-use Rattle.laws.specs.Tests.{is}
 use Rattle.laws.specs.Lists.{count}
 use Rattle.laws.specs.Lists.Count.{count-append}
 use Rattle.laws.specs.Loops.{step-byte, step-take}

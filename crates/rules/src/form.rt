@@ -1,10 +1,8 @@
 // Rules 7 to 10: a series by itself, and beside the message's and the sender's stored series with its id or its pair.
 ghost use mathlib.Core.Path.{_≡_};
-ghost use Rattle.laws.specs.Tests.{_or_, neg, is};
-ghost use Rattle.paper.specs.Layout.{idOf};
-ghost use Rattle.paper.specs.Ids.{idWellFormed};
 ghost use Rattle.paper.specs.Rules.{rule8, rule9, rule10};
 ghost use Rattle.eic.specs.Table.{IsTable};
+ghost use Rattle.rules.specs.ByPlaces.{knownOtherwise, rule7By};
 use eic::eic_valid_with;
 use field::all_zero;
 use field::id_well_formed;
@@ -31,7 +29,7 @@ pub fn known_otherwise(
     stored_with_id: u16,
     stored_with_pair: u16,
 ) -> bool
-    ensures { λ r. ⌜ r ≡ (neg (is «first_with_id» number) or neg (is «first_with_pair» number) or neg (is «stored_with_id» «stored_with_pair»)) ⌝ }
+    ensures { λ r. ⌜ r ≡ knownOtherwise number «first_with_id» «first_with_pair» «stored_with_id» «stored_with_pair» ⌝ }
 {
     (first_with_id as usize != number)
         | (first_with_pair as usize != number)
@@ -40,7 +38,7 @@ pub fn known_otherwise(
 
 // Rules 14 to 17 know a series again by its pair alone, which rule 7 makes safe.
 pub fn rule_7(y: &[u8], otherwise: bool) -> bool
-    ensures { λ r. ⌜ r ≡ (neg (idWellFormed (idOf (now (y .entry)))) or otherwise) ⌝ }
+    ensures { λ r. ⌜ r ≡ rule7By otherwise (now (y .entry)) ⌝ }
 {
     !id_well_formed(id_of(y)) | otherwise
 }

@@ -37,20 +37,20 @@ pub fn rule_5(d: &[u8], h: &[u8]) -> bool
 }
 
 // One more than the largest version of two bytes fits in four.
-fn id_or_version_broken(stored: &[u8], h: &[u8]) -> bool
-    ensures { λ r. ⌜ r ≡ idOrVersionBroken (now (stored .entry)) (now (h .entry)) ⌝ }
+fn id_or_version_broken(known: &[u8], h: &[u8]) -> bool
+    ensures { λ r. ⌜ r ≡ idOrVersionBroken (now (known .entry)) (now (h .entry)) ⌝ }
 {
-    if is_sender(stored) {
-        return !same(id_of(h), id_of(stored))
-            | !(version(h) as u32 == version(stored) as u32 + 1)
+    if is_sender(known) {
+        return !same(id_of(h), id_of(known))
+            | !(version(h) as u32 == version(known) as u32 + 1)
             | (999 < version(h));
     }
     !(version(h) == 1)
 }
 
 // The one rule of the first block that asks what is stored of the sender.
-pub fn rule_6(stored: &[u8], h: &[u8]) -> bool
-    ensures { λ r. ⌜ r ≡ rule6 (now (stored .entry)) (now (h .entry)) ⌝ }
+pub fn rule_6(known: &[u8], h: &[u8]) -> bool
+    ensures { λ r. ⌜ r ≡ rule6 (now (known .entry)) (now (h .entry)) ⌝ }
 {
-    !id_well_formed(id_of(h)) | id_or_version_broken(stored, h)
+    !id_well_formed(id_of(h)) | id_or_version_broken(known, h)
 }

@@ -3,12 +3,12 @@
 ghost use mathlib.Core.Path.{_≡_};
 ghost use mathlib.Core.Bool.{cond};
 ghost use mathlib.Core.List.{[]};
-ghost use Prim.Native.Nat.{_+_, _/_, _<_, _≤_};
+ghost use Prim.Native.Nat.{_/_, _<_, _≤_};
 ghost use lib.ListN.{length, take, getD};
-ghost use Rattle.laws.specs.Tests.{_and_, neg, is, less, below};
+ghost use Rattle.laws.specs.Tests.{is};
 ghost use Rattle.laws.specs.Lists.{count};
 ghost use Rattle.laws.specs.Cut.{cut};
-ghost use Rattle.paper.specs.Book.{isSender, isSeriesOf};
+ghost use Rattle.rules.specs.ByPlaces.{absentBy, rule16By, rule17By};
 use paper::Slot;
 use slots::block_at;
 use slots::is_sender;
@@ -16,23 +16,22 @@ use slots::is_series_of;
 
 // A series that the message leaves out is no withdrawal.
 fn absent_at(us: &[u8], slot: Slot, numbers: &[u16; 1000], i: usize) -> bool
-    requires { ⌜ (i < 1000) × (length (now numbers) ≡ 1000) ⌝ }
-    ensures { λ r. ⌜ r ≡ (isSeriesOf (slot .0) (getD (cut 512 (now (us .entry))) i []) and is (getD (now (numbers .entry)) i 0) 0) ⌝ }
+    requires { ⌜ i < 1000 ⌝ }
+    ensures { λ r. ⌜ r ≡ absentBy (slot .0) (getD (now (numbers .entry)) i 0) (getD (cut 512 (now (us .entry))) i []) ⌝ }
 {
     is_series_of(block_at(us, i), slot) & (numbers[i] == 0)
 }
 
 // A message carries all series of its sender: none that is stored may be left out.
 pub fn rule_16(us: &[u8], slot: Slot, numbers: &[u16; 1000]) -> bool
-    requires { ⌜ (length (now us) / 512 ≤ 1000) × (length (now numbers) ≡ 1000) ⌝ }
-    ensures { λ r. ⌜ r ≡ neg (below (λ i. neg (isSeriesOf (slot .0) (getD (cut 512 (now (us .entry))) i []) and is (getD (now (numbers .entry)) i 0) 0)) (length (now (us .entry)) / 512)) ⌝ }
+    requires { ⌜ length (now us) / 512 ≤ 1000 ⌝ }
+    ensures { λ r. ⌜ r ≡ rule16By (slot .0) (cut 512 (now (us .entry))) (now (numbers .entry)) ⌝ }
 {
-    let own = slot.0;
-    let many = us.len() / 512;
+    let used = us.len() / 512;
     let mut present = true;
     let mut i = 0;
-    while i < many {
-        present = present & !absent_at(us, Slot(own), numbers, i);
+    while i < used {
+        present = present & !absent_at(us, slot, numbers, i);
         i += 1;
     }
     !present
@@ -46,23 +45,23 @@ fn one_if(test: bool) -> usize
 }
 
 // Those that will need a slot.
-fn new_series(places: &[u16; 1000], many: usize) -> usize
-    requires { ⌜ (many ≤ 1000) × (length (now places) ≡ 1000) ⌝ }
-    ensures { λ r. ⌜ (r ≡ count (λ n. is n 0) (take many (now (places .entry)))) × (r ≤ many) ⌝ }
+fn new_series(places: &[u16; 1000], series: usize) -> usize
+    requires { ⌜ (series ≤ 1000) × (length (now places) ≡ 1000) ⌝ }
+    ensures { λ r. ⌜ (r ≡ count (λ place. is place 0) (take series (now (places .entry)))) × (r ≤ 1000) ⌝ }
 {
     let mut n: usize = 0;
     let mut i = 0;
-    while i < many {
+    while i < series {
         n += one_if(places[i] == 0);
         i += 1;
     }
     n
 }
 
-// A new sender needs a slot too.
-pub fn rule_17(free: usize, stored: &[u8], places: &[u16; 1000], many: usize) -> bool
-    requires { ⌜ (many ≤ 1000) × (length (now places) ≡ 1000) ⌝ }
-    ensures { λ r. ⌜ r ≡ less free (cond (isSender (now (stored .entry))) 0 1 + count (λ n. is n 0) (take many (now (places .entry)))) ⌝ }
+// A new sender needs a slot too. `series` is how many the message has.
+pub fn rule_17(known: &[u8], free: usize, places: &[u16; 1000], series: usize) -> bool
+    requires { ⌜ (series ≤ 1000) × (length (now places) ≡ 1000) ⌝ }
+    ensures { λ r. ⌜ r ≡ rule17By (now (known .entry)) free (take series (now (places .entry))) ⌝ }
 {
-    free < one_if(!is_sender(stored)) + new_series(places, many)
+    free < one_if(!is_sender(known)) + new_series(places, series)
 }

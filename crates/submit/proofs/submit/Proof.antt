@@ -5,19 +5,19 @@ use Rattle.submit.proofs.submit.Statement.{statement}
 use Rattle.submit.proofs.submit.Tie as tie
 
 returns : tie.Need-returns
-returns c = let j = c .before .before .before .judge-book .ensures .0 in (j, submitted-refused _ _ _ j (c .if1 .taken))
+returns c = let j = c .before .before .before .judge-book .ensures .verdict in (j, submitted-refused _ _ _ j (c .if1 .taken))
 
 accept-requires : tie.Need-accept-requires
 accept-requires c κs =
     let e = c .before .before .before in
     let j = e .before .before .before .judge-book .ensures in
-    (accepted-fits _ _ _ (j .0) (e .if1 .left), j .1 .handed (e .if1 .left))
+    (accepted-fits _ _ _ (j .verdict) (e .if1 .left), j .handed (e .if1 .left))
 
 returns-2 : tie.Need-returns-2
 returns-2 c =
     let a = c .before .before in
     let e = a .before .before .before .before in
-    let j = e .before .before .before .judge-book .ensures .0 in
+    let j = e .before .before .before .judge-book .ensures .verdict in
     (j, submitted-accepted _ _ _ j (e .if1 .left) (a .accept .ensures))
 
 pub submit-spec : {M : Type 1} → statement M

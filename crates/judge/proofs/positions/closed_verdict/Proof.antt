@@ -3,7 +3,7 @@ use Rattle.laws.specs.Kit.{_-_, _∙_, _≡_, _≤_, arith, denied, needs}
 use Rattle.laws.specs.Order.{along}
 use Rattle.laws.specs.Order.Laws.{along-end, along-go, along-hit, along-start}
 use Rattle.paper.specs.Rules.{closedVerdict, fine, numberOf, overPositions}
-use Rattle.judge.proofs.Laws.{closed-rest}
+use Rattle.judge.proofs.Laws.Order.{closed-rest}
 use Rattle.judge.proofs.positions.closed_verdict.Statement.{statement}
 use Rattle.judge.proofs.positions.closed_verdict.Tie as tie
 

@@ -1,7 +1,6 @@
 -- A refusal of form ends it.
-use Rattle.laws.specs.Kit.{needs}
-use Rattle.judge.specs.Looked.{seriesBy}
-use Rattle.judge.proofs.Laws.{then-hit, then-pass}
+use Rattle.judge.specs.Order.{seriesBy}
+use Rattle.judge.proofs.Laws.Order.{then-hit, then-pass}
 use Rattle.judge.proofs.series.series_verdict.Statement.{statement}
 use Rattle.judge.proofs.series.series_verdict.Tie as tie
 
@@ -16,4 +15,4 @@ returns-2 c =
     then-pass (f .before .before .form-verdict .ensures) (f .if1 .left) (c .values-verdict .ensures)
 
 pub series-verdict-spec : {M : Type 1} → statement M
-series-verdict-spec = tie.close (tie.spec (λ c κs. search needs) returns (λ c κs. search needs) returns-2)
+series-verdict-spec = tie.close (tie.spec (λ c κs. c .before .before .before .before .pre) returns (λ c κs. tt) returns-2)

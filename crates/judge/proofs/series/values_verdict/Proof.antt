@@ -1,7 +1,7 @@
 -- The three verdicts are joined as the definition joins them.
 use Rattle.laws.specs.Kit.{needs}
 use Rattle.paper.specs.Rules.{valuesVerdict}
-use Rattle.judge.proofs.Laws.{broken-by, then-two}
+use Rattle.judge.proofs.Laws.Order.{broken-by, then-two}
 use Rattle.judge.proofs.series.values_verdict.Statement.{statement}
 use Rattle.judge.proofs.series.values_verdict.Tie as tie
 

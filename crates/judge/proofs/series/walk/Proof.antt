@@ -1,34 +1,43 @@
 -- Four searches, then the rules.
 use Rattle.laws.specs.Kit.{needs}
-use Rattle.judge.proofs.Lasts.{sizes}
+use Rattle.judge.proofs.Laws.Places.{sizes}
 use Rattle.judge.proofs.series.walk.Statement.{statement}
 use Rattle.judge.proofs.series.walk.Tie as tie
 
 look-up-requires : tie.Need-look-up-requires
-look-up-requires c κs = let a = c .before .before .before .before .before in let z = sizes _ _ (a .pre .1) in (z .1, z .1, search needs)
+look-up-requires c κs = let s = c .before in let z = sizes _ _ (s .series-of .ensures) (s .before .before .before .before .pre .1) in (z .1, z .1, search needs)
 
 look-up-requires-2 : tie.Need-look-up-requires-2
-look-up-requires-2 c κs = let a = c .before .before .before .before .before .before .before in let z = sizes _ _ (a .pre .1) in (z .1, z .1, search needs)
+look-up-requires-2 c κs = let s = c .before .before .before in let z = sizes _ _ (s .series-of .ensures) (s .before .before .before .before .pre .1) in (z .1, z .1, search needs)
 
 look-up-requires-3 : tie.Need-look-up-requires-3
-look-up-requires-3 c κs = let a = c .before .before .before .before .before .before .before .before .before in let z = sizes _ _ (a .pre .1) in (z .0, z .1, search needs)
+look-up-requires-3 c κs = let s = c .before .before .before .before .before in let z = sizes _ _ (s .series-of .ensures) (s .before .before .before .before .pre .1) in (z .0, z .1, search needs)
 
 look-up-requires-4 : tie.Need-look-up-requires-4
-look-up-requires-4 c κs = let a = c .before .before .before .before .before .before .before .before .before .before .before in let z = sizes _ _ (a .pre .1) in (z .0, z .1, search needs)
+look-up-requires-4 c κs =
+    let s = c .before .before .before .before .before .before .before in
+    let a = s .before .before .before .before in
+    let z = sizes _ _ (s .series-of .ensures) (a .pre .1) in
+    (z .0, z .1, a .pre .2)
 
 each-series-requires : tie.Need-each-series-requires
 each-series-requires c κs =
-    let l4 = c .before .before .before .before in
+    let l4 = c .before in
     let l3 = l4 .before .before in
     let l2 = l3 .before .before in
     let l1 = l2 .before .before in
-    let a = l1 .before .before .before .before .before .before in
-    (a .pre .0, a .pre .1, record { first-ids = l1 .look-up .ensures; first-pairs = l2 .look-up2 .ensures; stored-ids = l3 .look-up3 .ensures; stored-pairs = l4 .look-up4 .ensures })
+    let s = l1 .before .before in
+    let a = s .before .before .before .before in
+    let e = s .series-of .ensures in
+    (a .pre .0, a .pre .1, record { first-ids = rw e at (l1 .look-up .ensures); first-pairs = rw e at (l2 .look-up2 .ensures); stored-ids = rw e at (l3 .look-up3 .ensures); stored-pairs = rw e at (l4 .look-up4 .ensures) })
 
 returns : tie.Need-returns
-returns c = (c .each-series .ensures, c .before .before .before .before .before .look-up4 .ensures)
+returns c =
+    let l4 = c .before .before in
+    let s = l4 .before .before .before .before .before .before .before .before in
+    (c .each-series .ensures, rw (s .series-of .ensures) at (l4 .look-up4 .ensures))
 
 pub walk-spec : {M : Type 1} → statement M
 walk-spec =
     tie.close
-    (tie.spec look-up-requires look-up-requires-2 look-up-requires-3 look-up-requires-4 each-series-requires returns)
+    (tie.spec (λ c κs. tt) look-up-requires look-up-requires-2 look-up-requires-3 look-up-requires-4 each-series-requires returns)

@@ -1,5 +1,4 @@
 -- The three tests are joined as the definition joins them.
-use Rattle.laws.specs.Kit.{needs}
 use Rattle.laws.specs.Tests.{_or_, is, neg}
 use Rattle.paper.specs.Rules.{rule10}
 use Rattle.rules.proofs.form.rule_10.Statement.{statement}
@@ -10,8 +9,8 @@ unfolding rule10 _or_ neg is
 rule-10-spec =
     tie.close
     (tie.spec
-    (search needs)
-    (search needs)
-    (search needs)
-    (search needs)
-    (λ c. cc))
+    (λ c κs. tt)
+    (λ c κs. tt)
+    (λ c κs. tt)
+    (λ c κs. tt)
+    (λ c. simp (c .all-zero .ensures, c .before .agreement .ensures, c .before .before .contract-type .ensures, c .before .before .before .business-type .ensures)))

@@ -1,5 +1,5 @@
 -- The three tests are joined as the definition joins them.
-use Rattle.laws.specs.Kit.{needs}
+use Rattle.laws.specs.Kit.{needs, arith}
 use Rattle.laws.specs.Tests.{_or_, neg}
 use Rattle.paper.specs.Rules.{rule8}
 use Rattle.rules.proofs.form.rule_8.Statement.{statement}
@@ -10,11 +10,11 @@ unfolding rule8 _or_ neg
 rule-8-spec =
     tie.close
     (tie.spec
-    (search needs)
-    (λ c κs. search needs)
-    (search needs)
-    (λ c κs. search needs)
-    (search needs)
-    (search needs)
-    (search needs)
-    (λ c. cc))
+    (λ c κs. tt)
+    (λ c κs. c .before .before .before .pre)
+    (λ c κs. tt)
+    (λ c κs. c .before .before .before .before .before .pre)
+    (λ c κs. tt)
+    (λ c κs. tt)
+    (λ c. omega arith)
+    (λ c. simp (c .parties-of .ensures, c .before .pair .ensures, c .before .before .sender .ensures, c .before .before .before .eic-valid-with2 .ensures, c .before .before .before .before .out-party .ensures, c .before .before .before .before .before .eic-valid-with .ensures, c .before .before .before .before .before .before .in-party .ensures)))

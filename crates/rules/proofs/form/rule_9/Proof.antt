@@ -1,5 +1,4 @@
 -- The two tests are joined as the definition joins them.
-use Rattle.laws.specs.Kit.{needs}
 use Rattle.laws.specs.Tests.{_or_, neg}
 use Rattle.paper.specs.Rules.{rule9}
 use Rattle.rules.proofs.form.rule_9.Statement.{statement}
@@ -10,10 +9,10 @@ unfolding rule9 _or_ neg
 rule-9-spec =
     tie.close
     (tie.spec
-    (search needs)
-    (search needs)
-    (search needs)
-    (search needs)
-    (search needs)
-    (search needs)
-    (λ c. cc))
+    (λ c κs. tt)
+    (λ c κs. tt)
+    (λ c κs. tt)
+    (λ c κs. tt)
+    (λ c κs. tt)
+    (λ c κs. tt)
+    (λ c. simp (c .same2 .ensures, c .before .area2 .ensures, c .before .before .out-area .ensures, c .before .before .before .same .ensures, c .before .before .before .before .area .ensures, c .before .before .before .before .before .in-area .ensures)))

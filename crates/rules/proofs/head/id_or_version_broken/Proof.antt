@@ -5,21 +5,31 @@ use Rattle.paper.specs.Rules.{idOrVersionBroken}
 use Rattle.rules.proofs.head.id_or_version_broken.Statement.{statement}
 use Rattle.rules.proofs.head.id_or_version_broken.Tie as tie
 
-pub id-or-version-broken-spec : {M : Type 1} → statement M
+known : tie.Need-returns
 unfolding idOrVersionBroken _or_ neg is less
+known c =
+    let s = c .before .before .before in
+    let k = s .before .before .before in
+    simp (sym (k .before .is-sender .ensures) ∙ k .if1 .taken, c .version3 .ensures, c .before .version2 .ensures, c .before .before .version .ensures, s .same .ensures, s .before .id-of2 .ensures, s .before .before .id-of .ensures)
+
+new : tie.Need-returns-2
+unfolding idOrVersionBroken neg is
+new c = simp (sym (c .before .before .is-sender .ensures) ∙ c .before .if1 .left, c .version4 .ensures)
+
+pub id-or-version-broken-spec : {M : Type 1} → statement M
 id-or-version-broken-spec =
     tie.close
     (tie.spec
+    (λ c κs. tt)
+    (λ c κs. tt)
+    (λ c κs. tt)
+    (λ c κs. tt)
+    (λ c κs. tt)
+    (search needs)
+    (λ c κs. tt)
     (search needs)
     (search needs)
-    (search needs)
-    (search needs)
-    (search needs)
-    (search needs)
-    (search needs)
-    (search needs)
-    (search needs)
-    (search needs)
-    (λ c. let k = c .before .before .before .before .before .before in rw (sym (k .before .is-sender .ensures) ∙ k .if1 .taken) (cc))
-    (search needs)
-    (λ c. rw (sym (c .before .before .is-sender .ensures) ∙ c .before .if1 .left) (cc)))
+    (λ c κs. tt)
+    known
+    (λ c κs. tt)
+    new)

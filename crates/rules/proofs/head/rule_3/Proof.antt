@@ -1,5 +1,4 @@
 -- The code is the definition: the receivers are compared.
-use Rattle.laws.specs.Kit.{needs}
 use Rattle.laws.specs.Tests.{neg}
 use Rattle.paper.specs.Rules.{rule3}
 use Rattle.rules.proofs.head.rule_3.Statement.{statement}
@@ -10,7 +9,7 @@ unfolding rule3 neg
 rule-3-spec =
     tie.close
     (tie.spec
-    (search needs)
-    (search needs)
-    (search needs)
-    (λ c. cc))
+    (λ c κs. tt)
+    (λ c κs. tt)
+    (λ c κs. tt)
+    (λ c. simp (c .same .ensures, c .before .receiver2 .ensures, c .before .before .receiver .ensures)))

@@ -1,5 +1,4 @@
 -- The code is the definition: the sender's code is checked.
-use Rattle.laws.specs.Kit.{needs}
 use Rattle.laws.specs.Tests.{neg}
 use Rattle.paper.specs.Rules.{rule4}
 use Rattle.rules.proofs.head.rule_4.Statement.{statement}
@@ -10,6 +9,6 @@ unfolding rule4 neg
 rule-4-spec =
     tie.close
     (tie.spec
-    (search needs)
-    (λ c κs. search needs)
-    (λ c. cc))
+    (λ c κs. tt)
+    (λ c κs. c .before .before .pre)
+    (λ c. simp (c .eic-valid-with .ensures, c .before .sender .ensures)))

@@ -1,5 +1,4 @@
 -- The id's form and what is stored, joined as the rule joins them.
-use Rattle.laws.specs.Kit.{needs}
 use Rattle.laws.specs.Tests.{_or_, neg}
 use Rattle.paper.specs.Rules.{rule6}
 use Rattle.rules.proofs.head.rule_6.Statement.{statement}
@@ -10,7 +9,7 @@ unfolding rule6 _or_ neg
 rule-6-spec =
     tie.close
     (tie.spec
-    (search needs)
-    (search needs)
-    (search needs)
-    (λ c. cc))
+    (λ c κs. tt)
+    (λ c κs. tt)
+    (λ c κs. tt)
+    (λ c. simp (c .id-or-version-broken .ensures, c .before .id-well-formed .ensures, c .before .before .id-of .ensures)))

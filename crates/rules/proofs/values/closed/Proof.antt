@@ -1,5 +1,5 @@
 -- A position's number less 1 is what the code counts by.
-use Rattle.laws.specs.Kit.{_+_, _-_, _≡_, arith, needs}
+use Rattle.laws.specs.Kit.{_+_, _-_, _≡_, arith}
 use Rattle.laws.specs.Tests.{neg, upto}
 use Rattle.paper.specs.Rules.{closed, isOpen}
 use Rattle.rules.proofs.values.closed.Statement.{statement}
@@ -10,11 +10,11 @@ unfolding closed isOpen neg upto
 closed-spec =
     tie.close
     (tie.spec
-    (search needs)
-    (search needs)
-    (search needs)
-    (search needs)
-    (search needs)
-    (search needs)
-    (search needs)
-    (λ c. let k = c .before .before .before .before .args .k in let z : k + 1 - 1 ≡ k = omega arith in rw z (cc)))
+    (λ c κs. tt)
+    (λ c. omega arith)
+    (λ c κs. tt)
+    (λ c. omega arith)
+    (λ c. omega arith)
+    (λ c. omega arith)
+    (λ c. omega arith)
+    (λ c. let k = c .before .before .before .before .args .k in let z : k + 1 - 1 ≡ k = omega arith in rw z (simp (c .lead .ensures, c .before .before .clock .ensures))))

@@ -1,5 +1,5 @@
 -- The code is the definition.
-use Rattle.laws.specs.Kit.{needs}
+use Rattle.laws.specs.Kit.{arith}
 use Rattle.laws.specs.Tests.{_and_, less, upto}
 use Rattle.paper.specs.Rules.{rule11}
 use Rattle.rules.proofs.values.rule_11.Statement.{statement}
@@ -10,5 +10,5 @@ unfolding rule11 _and_ less upto
 rule-11-spec =
     tie.close
     (tie.spec
-    (search needs)
-    (λ c. cc))
+    (λ c κs. omega arith)
+    (λ c. simp (c .quantity .ensures)))

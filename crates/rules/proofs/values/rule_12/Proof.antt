@@ -1,5 +1,5 @@
 -- The code is the definition.
-use Rattle.laws.specs.Kit.{needs}
+use Rattle.laws.specs.Kit.{arith}
 use Rattle.laws.specs.Tests.{_and_, less}
 use Rattle.paper.specs.Rules.{rule12}
 use Rattle.rules.proofs.values.rule_12.Statement.{statement}
@@ -10,5 +10,5 @@ unfolding rule12 _and_ less
 rule-12-spec =
     tie.close
     (tie.spec
-    (search needs)
-    (λ c. cc))
+    (λ c κs. omega arith)
+    (λ c. simp (c .quantity .ensures)))

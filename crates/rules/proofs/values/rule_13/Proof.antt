@@ -1,5 +1,5 @@
 -- The code is the definition.
-use Rattle.laws.specs.Kit.{needs}
+use Rattle.laws.specs.Kit.{arith}
 use Rattle.laws.specs.Tests.{_and_, is, neg, upto}
 use Rattle.paper.specs.Rules.{rule13}
 use Rattle.rules.proofs.values.rule_13.Statement.{statement}
@@ -10,5 +10,5 @@ unfolding rule13 _and_ upto neg is
 rule-13-spec =
     tie.close
     (tie.spec
-    (search needs)
-    (λ c. cc))
+    (λ c κs. omega arith)
+    (λ c. simp (c .quantity .ensures)))

@@ -1,5 +1,5 @@
 -- Both tests are the definition's.
-use Rattle.laws.specs.Kit.{needs}
+use Rattle.laws.specs.Kit.{arith}
 use Rattle.laws.specs.Tests.{_and_, is, neg}
 use Rattle.paper.specs.Rules.{rule14}
 use Rattle.rules.proofs.values.rule_14.Statement.{statement}
@@ -10,7 +10,7 @@ unfolding rule14 _and_ neg is
 rule-14-spec =
     tie.close
     (tie.spec
-    (search needs)
-    (search needs)
-    (search needs)
-    (λ c. cc))
+    (λ c κs. omega arith)
+    (λ c κs. omega arith)
+    (λ c κs. omega arith)
+    (λ c. simp (c .quantity2 .ensures, c .before .quantity .ensures, c .before .before .closed .ensures)))

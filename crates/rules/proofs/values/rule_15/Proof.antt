@@ -1,5 +1,4 @@
 -- The code is the definition.
-use Rattle.laws.specs.Kit.{needs}
 use Rattle.laws.specs.Tests.{is, neg}
 use Rattle.paper.specs.Rules.{rule15}
 use Rattle.rules.proofs.values.rule_15.Statement.{statement}
@@ -10,6 +9,6 @@ unfolding rule15 neg is
 rule-15-spec =
     tie.close
     (tie.spec
-    (search needs)
-    (search needs)
-    (λ c. cc))
+    (λ c κs. tt)
+    (λ c κs. tt)
+    (λ c. simp (c .series-version .ensures, c .before .version .ensures)))

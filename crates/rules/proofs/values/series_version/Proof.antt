@@ -1,5 +1,4 @@
 -- The branch is the definition's.
-use Rattle.laws.specs.Kit.{needs}
 use Rattle.laws.specs.Tests.{_or_, neg}
 use Rattle.paper.specs.Rules.{seriesVersion}
 use Rattle.rules.proofs.values.series_version.Statement.{statement}
@@ -21,11 +20,11 @@ pub series-version-spec : {M : Type 1} → statement M
 series-version-spec =
     tie.close
     (tie.spec
-    (search needs)
-    (search needs)
-    (search needs)
-    (search needs)
-    (search needs)
+    (λ c κs. tt)
+    (λ c κs. tt)
+    (λ c κs. tt)
+    (λ c κs. tt)
+    (λ c κs. tt)
     returns
-    (search needs)
+    (λ c κs. tt)
     returns-2)

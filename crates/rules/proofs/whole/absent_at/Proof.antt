@@ -1,9 +1,15 @@
 -- The code is the definition, of the block at i.
-use Rattle.laws.specs.Kit.{needs}
+use Rattle.laws.specs.Kit.{arith}
 use Rattle.laws.specs.Tests.{_and_, is}
+use Rattle.rules.specs.ByPlaces.{absentBy}
 use Rattle.rules.proofs.whole.absent_at.Statement.{statement}
 use Rattle.rules.proofs.whole.absent_at.Tie as tie
 
 pub absent-at-spec : {M : Type 1} → statement M
-unfolding _and_ is
-absent-at-spec = tie.close (tie.spec (λ c κs. search needs) (λ c κs. search needs) (search needs) (search needs) (λ c. cc))
+unfolding absentBy _and_ is
+absent-at-spec = tie.close (tie.spec
+    (λ c κs. tt)
+    (λ c κs. tt)
+    (λ c. omega arith)
+    (λ c. omega arith)
+    (λ c. simp (c .before .is-series-of .ensures, c .before .before .block-at .ensures)))

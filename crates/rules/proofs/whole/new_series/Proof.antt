@@ -1,5 +1,5 @@
 -- The first i places are counted.
-use Rattle.laws.specs.Kit.{needs, arith, _≡_, refl, _≤_, _-_, take, length, at-end}
+use Rattle.laws.specs.Kit.{arith, _≡_, refl, _≤_, _-_, at-end, take}
 use denote.Ref.{now}
 use Rattle.laws.specs.Tests.{is}
 use Rattle.laws.specs.Lists.{count}
@@ -8,10 +8,10 @@ use Rattle.rules.proofs.whole.new_series.Statement.{statement}
 use Rattle.rules.proofs.whole.new_series.Tie as tie
 
 abbrev Inv-loop : tie.InvT-loop
-Inv-loop places many n₀ i₀ n i = (i ≤ many) × (n ≤ i) × (n ≡ count (λ k. is k 0) (take i places))
+Inv-loop places series n₀ i₀ n i = (i ≤ series) × (n ≤ i) × (n ≡ count (λ k. is k 0) (take i places))
 
 abbrev μ-loop : tie.MeasureT-loop
-μ-loop places many n₀ i₀ n i = many - i
+μ-loop places series n₀ i₀ n i = series - i
 
 loop-holds : tie.Need-loop-holds Inv-loop μ-loop
 unfolding count
@@ -21,14 +21,15 @@ loop-again : tie.Need-loop-again Inv-loop μ-loop
 unfolding is
 loop-again c =
     let t = c .before .before in
-    (omega arith, omega arith, count-one-more (λ k. is k 0) (now (t .before .before .args .places)) _ _ _ (t .before .loop .inv .2) (c .one-if .ensures .0) (omega arith))
+    let i = t .before in
+    (omega arith, omega arith, count-one-more (λ k. is k 0) (now (i .before .args .places)) _ _ _ (i .loop .inv .2) (c .one-if .ensures .0) (omega arith))
 
 returns : tie.Need-returns Inv-loop μ-loop
 returns c =
-    let l = c .before .loop in
-    (at-end (λ k. count (λ j. is j 0) (take k (now (c .before .before .args .places)))) (l .inv .2) (l .inv .0) (c .loop-test .left), omega (arith, l .inv .0, l .inv .1))
+    let i = c .before in
+    (at-end (λ k. count (λ j. is j 0) (take k (now (i .before .args .places)))) (i .loop .inv .2) (i .loop .inv .0) (c .loop-test .left), omega arith)
 
 pub new-series-spec : {M : Type 1} → statement M
 new-series-spec =
     tie.close
-    (tie.spec Inv-loop μ-loop loop-holds (search needs) (search needs) (λ c κs. search needs) (search needs) (search needs) (search needs) loop-again returns)
+    (tie.spec Inv-loop μ-loop loop-holds (λ c. omega arith) (λ c. omega arith) (λ c κs. tt) (λ c. omega arith) (λ c. omega arith) (λ c. omega arith) loop-again returns)

@@ -1,32 +1,35 @@
 -- None below i is absent.
-use Rattle.laws.specs.Kit.{needs, arith, _≡_, [], refl, _≤_, _-_, _/_, length, getD, ap, at-end}
-use Rattle.laws.specs.Tests.{_and_, neg, is, below}
-use Rattle.laws.specs.Tests.Laws.{below-more}
+use Rattle.laws.specs.Kit.{arith, _≡_, [], refl, _∙_, _≤_, _-_, _/_, not, length, getD, ap, at-end, needs}
+use denote.Ref.{now}
+use Rattle.laws.specs.Tests.{neg, below}
+use Rattle.laws.specs.Loops.{below-go}
 use Rattle.laws.specs.Cut.{cut}
-use Rattle.paper.specs.Book.{isSeriesOf}
+use Rattle.laws.specs.Cut.Laws.{cut-length}
+use Rattle.rules.specs.ByPlaces.{absentBy, rule16By}
 use Rattle.rules.proofs.whole.rule_16.Statement.{statement}
 use Rattle.rules.proofs.whole.rule_16.Tie as tie
 
 abbrev Inv-loop : tie.InvT-loop
-Inv-loop us numbers own many present₀ i₀ present i =
-    (i ≤ length us / 512) × (present ≡ below (λ j. neg (isSeriesOf own (getD (cut 512 us) j []) and is (getD numbers j 0) 0)) i)
+Inv-loop us slot numbers used present₀ i₀ present i =
+    (i ≤ length us / 512) × (present ≡ below (λ j. neg (absentBy (slot .0) (getD numbers j 0) (getD (cut 512 us) j []))) i)
 
 abbrev μ-loop : tie.MeasureT-loop
-μ-loop us numbers own many present₀ i₀ present i = length us / 512 - i
+μ-loop us slot numbers used present₀ i₀ present i = length us / 512 - i
 
 loop-holds : tie.Need-loop-holds Inv-loop μ-loop
 unfolding below
 loop-holds c = (omega arith, refl)
 
 loop-again : tie.Need-loop-again Inv-loop μ-loop
-unfolding neg _and_
-loop-again c = (omega arith, rw below-more (cc))
+unfolding neg
+loop-again c = (omega arith, below-go _ _ _ _ (c .before .before .loop .inv .1) (ap not (c .absent-at .ensures)))
 
 returns : tie.Need-returns Inv-loop μ-loop
-unfolding neg
+unfolding rule16By neg
 returns c =
     let l = c .before .loop in
-    ap neg (at-end (below _) (l .inv .1) (l .inv .0) (c .loop-test .left))
+    let us = now (c .before .before .before .args .us) in
+    ap neg (at-end (below _) (l .inv .1) (l .inv .0) (c .loop-test .left) ∙ ap (below _) (rw (cut-length 512 us)))
 
 pub rule-16-spec : {M : Type 1} → statement M
-rule-16-spec = tie.close (tie.spec Inv-loop μ-loop loop-holds (λ c κs. search needs) (search needs) (search needs) loop-again returns)
+rule-16-spec = tie.close (tie.spec Inv-loop μ-loop loop-holds (λ c κs. omega arith) (λ c. omega arith) (λ c. omega arith) loop-again returns)

@@ -15,15 +15,15 @@ use Rattle.laws.specs.Lists.Search.{has-agree, has-keep-or, has-take-place}
 use Rattle.laws.specs.Lists.Apart.{apart-places-differ}
 use Rattle.paper.specs.Layout.{Bytes, Block, idOf, pair}
 use Rattle.paper.specs.Ids.{idWellFormed}
-use Rattle.paper.specs.Book.{numbered, idIs, pairIs, isSeriesOf}
+use Rattle.paper.specs.Book.{idIs, pairIs, isSeriesOf}
 use Rattle.paper.specs.Sound.{sameSeries}
-use Rattle.paper.specs.Rules.{_then_, broken, withOtherPair, withOtherId, rule7, rule8, rule9, rule10, storedOf, formVerdict, valuesVerdict, seriesVerdict}
+use Rattle.paper.specs.Rules.{withOtherPair, withOtherId, rule7}
 use Rattle.facts.specs.Book.{series-of-series, series-of-slot}
 use Rattle.index.specs.Linked.{keyOf, ownWith, Found}
 use Rattle.index.specs.declared.By.{By}
 use Rattle.index.specs.declared.By.the-variants.{Id, Pair}
-use Rattle.judge.specs.Looked.{Taken, Looked, seriesBy}
-use Rattle.judge.proofs.Lasts.{stored-block}
+use Rattle.rules.specs.ByPlaces.{knownOtherwise, rule7By}
+use Rattle.judge.specs.Looked.{Taken, Looked}
 
 five : (a b c d e : Bool) → (a or b or c or d or e) ≡ (a or ((b or d) or (c or e)))
 unfolding _or_
@@ -69,17 +69,11 @@ module _ (us series : List Block) (slot : ℕ) (fi fp si sp : List ℕ) (k : Tak
       ∙ has-take-place (ownWith 0 by (keyOf by y)) series i [] h (rw (all-getD-inside (λ x. isSeriesOf 0 x ≡ true) series i [] h (k .kinds)) (same-refl (keyOf by y)))
       ∙ ap₂ (λ n m. neg (is n m)) (sym (e .each i h)) (sym (add-one i))
 
-  pub rule-7-by : rule7 (keep (isSeriesOf slot) us) (take i series) y ≡ (neg (idWellFormed (idOf y)) or (neg (is (getD fi i 0) (i + 1)) or neg (is (getD fp i 0) (i + 1)) or neg (is (getD si i 0) (getD sp i 0))))
-  unfolding rule7 idIs pairIs keyOf
-  rule-7-by =
-      five (neg (idWellFormed (idOf y))) _ _ _ _
+  pub rule-7-found : rule7By (knownOtherwise (i + 1) (getD fi i 0) (getD fp i 0) (getD si i 0) (getD sp i 0)) y ≡ rule7 (keep (isSeriesOf slot) us) (take i series) y
+  unfolding rule7By knownOtherwise rule7 idIs pairIs keyOf
+  rule-7-found =
+      sym
+      (five (neg (idWellFormed (idOf y))) _ _ _ _
       ∙ ap (λ b. neg (idWellFormed (idOf y)) or b)
       (ap₂ (λ b c. b or c) (ap₂ (λ b c. b or c) (seen Id fi (a .first-ids)) (seen Pair fp (a .first-pairs)))
-      (stored-crossed slot y us (k .apart) ∙ ap₂ (λ n m. neg (is n m)) (sym (a .stored-ids .each i h)) (sym (a .stored-pairs .each i h))))
-
-  pub series-by : (d hd x : Block) (s : ℕ) {t : Bool} → t ≡ (neg (is (getD fi i 0) (i + 1)) or neg (is (getD fp i 0) (i + 1)) or neg (is (getD si i 0) (getD sp i 0))) → x ≡ numbered us (getD sp i 0)
-      → seriesBy d hd x t s y ≡ seriesVerdict d (keep (isSeriesOf slot) us) hd (take i series) s y
-  unfolding seriesBy seriesVerdict formVerdict storedOf
-  series-by d hd x s e q =
-      rw (e, ← rule-7-by) (ap (λ b. (broken (rule7 (keep (isSeriesOf slot) us) (take i series) y) 7 s 0 then broken (rule8 hd y) 8 s 0 then broken (rule9 d y) 9 s 0 then broken (rule10 y) 10 s 0) then valuesVerdict d b hd s y)
-      (q ∙ stored-block slot us y (getD sp i 0) (a .stored-pairs .each i h)))
+      (stored-crossed slot y us (k .apart) ∙ ap₂ (λ n m. neg (is n m)) (sym (a .stored-ids .each i h)) (sym (a .stored-pairs .each i h)))))

@@ -1,0 +1,32 @@
+-- The verdict past rules 1 and 2, part by part: the sender's stored blocks are found by its slot among the used slots.
+use mathlib.Core.Path.{_≡_, _∙_}
+use mathlib.Core.List.{List}
+use Prim.Native.Nat.{ℕ}
+use Rattle.laws.specs.Lists.{keep}
+use Rattle.paper.specs.declared.Verdict.{Verdict}
+use Rattle.paper.specs.Layout.{Bytes, Block, sender}
+use Rattle.paper.specs.Book.{numbered, slotOf, isSeriesOf, ownSender, ownSeries}
+use Rattle.paper.specs.Message.{headOf, seriesOf}
+use Rattle.paper.specs.Rules.{_then_, headVerdict, lastVerdict, judge}
+use Rattle.judge.specs.Order.{eachSeriesOf, judgedBy}
+use Rattle.judge.proofs.Laws.Order.{then-hit, then-pass}
+
+module _ (d : Block) (us : List Block) (slot free : ℕ) (m : Bytes) (q : slot ≡ slotOf us (sender (headOf m))) where
+  abbrev head : Verdict
+  head = headVerdict d (numbered us slot) (headOf m)
+
+  abbrev last : Verdict
+  last = lastVerdict (numbered us slot) (keep (isSeriesOf slot) us) free (seriesOf m)
+
+  in-order : (head then eachSeriesOf d us slot m then last) ≡ judgedBy d us free m
+  unfolding judgedBy judge eachSeriesOf ownSender ownSeries
+  in-order = rw q
+
+  pub judged-head : {v : Verdict} → v ≡ head → (v .number ≡ 0 → ⊥) → v ≡ judgedBy d us free m
+  judged-head a n = then-hit _ a n ∙ in-order
+
+  pub judged-series : {v w : Verdict} → v ≡ head → v .number ≡ 0 → w ≡ eachSeriesOf d us slot m → (w .number ≡ 0 → ⊥) → w ≡ judgedBy d us free m
+  judged-series a z b n = then-pass a z (then-hit _ b n) ∙ in-order
+
+  pub judged-last : {v w u : Verdict} → v ≡ head → v .number ≡ 0 → w ≡ eachSeriesOf d us slot m → w .number ≡ 0 → u ≡ last → u ≡ judgedBy d us free m
+  judged-last a z b y f = then-pass a z (then-pass b y f) ∙ in-order

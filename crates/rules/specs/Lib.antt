@@ -1,0 +1,2 @@
+-- Rules 7, 16 and 17 as the code judges them.
+pub mod ByPlaces
