@@ -5,8 +5,9 @@ ghost use Rattle.paper.specs.Rules.{overPositions, quantityVerdict, closedVerdi
 use super::order::broken;
 use super::order::fine;
 use super::order::then;
+use forms::day::closed;
+use paper::Position;
 use paper::Verdict;
-use rules::values::closed;
 use rules::values::rule_11;
 use rules::values::rule_12;
 use rules::values::rule_13;
@@ -52,7 +53,7 @@ pub fn closed_verdict(d: &[u8], x: &[u8], s: usize, y: &[u8]) -> Verdict
 {
     let mut k = 0;
     while k < 100 {
-        if !closed(d, k) {
+        if !closed(d, Position(k + 1)) {
             return fine();
         }
         let v = closed_at(d, x, s, y, k);

@@ -1,13 +1,13 @@
 // Rules 11 to 15: the hundred positions of a series, each counted from 0 as k, and its version. n is the day's.
 ghost use mathlib.Core.Path.{_≡_};
-ghost use Prim.Native.Nat.{_+_, _<_};
-ghost use Rattle.paper.specs.Rules.{rule11, rule12, rule13, closed, rule14, seriesVersion, rule15};
+ghost use Prim.Native.Nat.{_<_};
+ghost use Rattle.paper.specs.Rules.{rule11, rule12, rule13, rule14, seriesVersion, rule15};
 use field::same;
-use layout::clock;
-use layout::lead;
+use forms::day::closed;
 use layout::quantities;
 use layout::quantity;
 use layout::version;
+use paper::Position;
 use slots::is_series;
 
 // The top bit is the sign: a quantity below 0.
@@ -34,20 +34,12 @@ pub fn rule_13(n: usize, y: &[u8], k: usize) -> bool
     (n <= k) & !(quantity(y, k) == 0)
 }
 
-// Position k + 1. Clock and lead together need more than the two bytes that each has.
-pub fn closed(d: &[u8], k: usize) -> bool
-    requires { ⌜ k < 100 ⌝ }
-    ensures { λ r. ⌜ r ≡ closed (now (d .entry)) (k + 1) ⌝ }
-{
-    !(clock(d).0 as usize + lead(d) as usize <= 15 * k + 10080)
-}
-
 // Of a new series nothing is stored, and each of its stored quantities counts as 0.
 pub fn rule_14(d: &[u8], x: &[u8], y: &[u8], k: usize) -> bool
     requires { ⌜ k < 100 ⌝ }
     ensures { λ r. ⌜ r ≡ rule14 (now (d .entry)) (now (x .entry)) (now (y .entry)) k ⌝ }
 {
-    closed(d, k) & !(quantity(y, k) == quantity(x, k))
+    closed(d, Position(k + 1)) & !(quantity(y, k) == quantity(x, k))
 }
 
 // A series keeps its version until one of its quantities changes.

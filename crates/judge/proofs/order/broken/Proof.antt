@@ -1,5 +1,4 @@
 -- The branch is the definition's, and the code the table's.
-use Rattle.laws.specs.Kit.{needs}
 use Rattle.paper.specs.Rules.{broken}
 use Rattle.judge.proofs.order.broken.Statement.{statement}
 use Rattle.judge.proofs.order.broken.Tie as tie
@@ -9,7 +8,7 @@ unfolding broken
 broken-spec =
     tie.close
     (tie.spec
-    (search needs)
+    (λ c κs. tt)
     (λ c. rw (c .before .if1 .taken, c .reason-code .ensures))
-    (search needs)
+    (λ c κs. tt)
     (λ c. rw (c .before .if1 .left) (c .fine .ensures)))

@@ -1,5 +1,5 @@
 -- No position passed by is refused, and past the first open one none can be.
-use Rattle.laws.specs.Kit.{_-_, _∙_, _≡_, _≤_, arith, denied, needs}
+use Rattle.laws.specs.Kit.{_-_, _∙_, _≡_, _≤_, arith, denied}
 use Rattle.laws.specs.Order.{along}
 use Rattle.laws.specs.Order.Laws.{along-end, along-go, along-hit, along-start}
 use Rattle.paper.specs.Rules.{closedVerdict, fine, numberOf, overPositions}
@@ -21,13 +21,14 @@ closed-verdict-spec =
     Inv-loop
     μ-loop
     (λ c. (omega arith, along-start _ _ _ _))
-    (search needs)
-    (search needs)
+    (λ c. omega arith)
+    (λ c κs. (omega arith, omega arith))
+    (λ c κs. tt)
     (λ c. let t = c .before .before .before in c .fine .ensures ∙ closed-rest _ _ _ _ _ (t .before .loop .inv .1) (denied (c .before .before .closed .ensures) (c .before .if1 .taken)))
-    (search needs)
+    (λ c κs. omega arith)
     (λ c. let t = c .before .before .before .before .before in along-hit _ _ _ _ _ _ (t .before .loop .inv .1) (t .loop-test .taken) (c .before .before .closed-at .ensures) (c .if2 .taken))
-    (search needs)
-    (search needs)
+    (λ c. omega arith)
+    (λ c. omega arith)
     (λ c. let t = c .before .before .before .before .before in (omega arith, along-go _ _ _ _ _ _ (t .before .loop .inv .1) (t .loop-test .taken) (c .before .before .closed-at .ensures) (c .if2 .left)))
-    (search needs)
+    (λ c κs. tt)
     (λ c. c .fine2 .ensures ∙ along-end _ _ _ _ _ (c .before .before .loop .inv .1) (c .before .loop-test .left)))

@@ -1,5 +1,5 @@
 -- No position passed by is refused, so that the first that is decides, and the end too.
-use Rattle.laws.specs.Kit.{_-_, _∙_, _≡_, _≤_, arith, needs}
+use Rattle.laws.specs.Kit.{_-_, _∙_, _≡_, _≤_, arith}
 use Rattle.laws.specs.Order.{along}
 use Rattle.laws.specs.Order.Laws.{along-end, along-go, along-hit, along-start}
 use Rattle.paper.specs.Rules.{fine, numberOf, overPositions, quantityVerdict}
@@ -20,10 +20,10 @@ quantity-verdict-spec =
     Inv-loop
     μ-loop
     (λ c. (omega arith, along-start _ _ _ _))
-    (search needs)
+    (λ c κs. omega arith)
     (λ c. let t = c .before .before .before in along-hit _ _ _ _ _ _ (t .before .loop .inv .1) (t .loop-test .taken) (c .before .before .quantity-at .ensures) (c .if1 .taken))
-    (search needs)
-    (search needs)
+    (λ c. omega arith)
+    (λ c. omega arith)
     (λ c. let t = c .before .before .before in (omega arith, along-go _ _ _ _ _ _ (t .before .loop .inv .1) (t .loop-test .taken) (c .before .before .quantity-at .ensures) (c .if1 .left)))
-    (search needs)
+    (λ c κs. tt)
     (λ c. c .fine .ensures ∙ along-end _ _ _ _ _ (c .before .before .loop .inv .1) (c .before .loop-test .left)))

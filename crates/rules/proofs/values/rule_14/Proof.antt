@@ -10,7 +10,8 @@ unfolding rule14 _and_ neg is
 rule-14-spec =
     tie.close
     (tie.spec
-    (λ c κs. omega arith)
+    (λ c. omega arith)
+    (λ c κs. (omega arith, omega arith))
     (λ c κs. omega arith)
     (λ c κs. omega arith)
     (λ c. simp (c .quantity2 .ensures, c .before .quantity .ensures, c .before .before .closed .ensures)))

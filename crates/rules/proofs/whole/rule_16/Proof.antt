@@ -1,5 +1,5 @@
 -- None below i is absent.
-use Rattle.laws.specs.Kit.{arith, _≡_, [], refl, _∙_, _≤_, _-_, _/_, not, length, getD, ap, at-end, needs}
+use Rattle.laws.specs.Kit.{arith, _≡_, [], refl, _∙_, _≤_, _-_, _/_, not, length, getD, ap, at-end}
 use denote.Ref.{now}
 use Rattle.laws.specs.Tests.{neg, below}
 use Rattle.laws.specs.Loops.{below-go}
