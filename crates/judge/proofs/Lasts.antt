@@ -1,0 +1,79 @@
+-- What is stored of a series, and rules 16 and 17, by places.
+use mathlib.Core.Path.{_≡_, sym, ap, _∙_}
+use mathlib.Core.Bool.{true, cond}
+use mathlib.Core.Option.{Option·getD}
+use mathlib.Core.List.{List, []}
+use Prim.Native.Nat.{ℕ, _+_, _/_, _≤_, _<_}
+use native.Mathlib.Omega.{arith}
+use lib.ListN.{length, take, getD}
+use lib.Seq.{take-all}
+use Rattle.laws.specs.Tests.{_and_, neg, is, less, below}
+use Rattle.laws.specs.Lists.{same, place, has, count, keep, All}
+use Rattle.laws.specs.Lists.Each.{all-imply, all-each, take-as-map}
+use Rattle.laws.specs.Lists.Search.{has-agree, has-take-below, has-keep-and, find-keep-and, place-is-0}
+use Rattle.laws.specs.Lists.Count.{count-agree, count-map}
+use Rattle.laws.specs.Cut.{cut}
+use Rattle.laws.specs.Cut.Laws.{cut-length}
+use Rattle.paper.specs.Layout.{Bytes, Block, pair}
+use Rattle.paper.specs.Book.{isSender, numbered, pairIs, isSeriesOf}
+use Rattle.paper.specs.Rules.{storedOf, absent, rule16, isNew, newBlocks, rule17}
+use Rattle.facts.specs.Book.{numbered-found}
+use Rattle.index.specs.Linked.{keyOf, ownWith, Found}
+use Rattle.index.specs.declared.By.the-variants.{Pair}
+use Rattle.judge.specs.Looked.{Taken}
+
+-- ---- a block by the place of the first that passes
+
+-- the series y of the sender in a slot, at the place k among the used slots us
+module _ (slot : ℕ) (us : List Block) (y : Block) where
+  pub stored-block : (k : ℕ) → k ≡ place (ownWith slot Pair (keyOf Pair y)) us → numbered us k ≡ storedOf (keep (isSeriesOf slot) us) y
+  unfolding ownWith keyOf storedOf pairIs
+  stored-block k e =
+      ap (numbered us) e ∙ numbered-found (λ x. isSeriesOf slot x and same (pair x) (pair y)) us ∙ ap (λ o. Option·getD o []) (sym (find-keep-and (λ x. same (pair x) (pair y)) (isSeriesOf slot) us))
+
+  stored-new : is (place (ownWith slot Pair (keyOf Pair y)) us) 0 ≡ isNew (keep (isSeriesOf slot) us) y
+  unfolding ownWith keyOf isNew pairIs
+  stored-new = place-is-0 (λ x. isSeriesOf slot x and same (pair x) (pair y)) us ∙ ap neg (sym (has-keep-and (λ x. same (pair x) (pair y)) (isSeriesOf slot) us))
+
+-- ---- rule 17: the places that are 0
+
+pub new-counted : (slot : ℕ) (us series : List Block) (places : List ℕ) (m : ℕ) → m ≡ length series → length series ≤ 1000 → Found slot Pair us series places
+    → count (λ n. is n 0) (take m places) ≡ count (isNew (keep (isSeriesOf slot) us)) series
+new-counted slot us series places m e h a =
+    ap (λ k. count (λ n. is n 0) (take k places)) e
+    ∙ ap (count (λ n. is n 0)) (take-as-map (λ y. place (ownWith slot Pair (keyOf Pair y)) us) [] series places (a .each) (rw (a .room) h))
+    ∙ count-map (λ y. place (ownWith slot Pair (keyOf Pair y)) us) (λ n. is n 0) series
+    ∙ count-agree _ _ series (all-each _ (stored-new slot us) series)
+
+-- ---- rule 16: a stored series has no number
+
+in-message : (x y : Block) → isSeriesOf 0 y ≡ true → ownWith 0 Pair (keyOf Pair x) y ≡ pairIs (pair x) y
+unfolding ownWith keyOf pairIs _and_
+in-message x y e = rw e
+
+module _ (slot : ℕ) (us series : List Block) (numbers : List ℕ) (k : All (λ y. isSeriesOf 0 y ≡ true) series) (a : Found 0 Pair series us numbers) where
+  absent-at : (i : ℕ) → i < length us → (isSeriesOf slot (getD us i []) and is (getD numbers i 0) 0) ≡ (isSeriesOf slot (getD us i []) and neg (has (pairIs (pair (getD us i []))) series))
+  absent-at i h =
+      ap (λ b. isSeriesOf slot (getD us i []) and b)
+      (ap (λ n. is n 0) (a .each i h) ∙ place-is-0 _ series ∙ ap neg (has-agree _ _ series (all-imply _ _ (in-message (getD us i [])) series k)))
+
+  pub absent-found : (m : ℕ) → m ≡ length us → neg (below (λ i. neg (isSeriesOf slot (getD us i []) and is (getD numbers i 0) 0)) m) ≡ rule16 (keep (isSeriesOf slot) us) series
+  unfolding rule16 absent
+  absent-found m e =
+      ap (λ n. neg (below (λ i. neg (isSeriesOf slot (getD us i []) and is (getD numbers i 0) 0)) n)) e
+      ∙ sym (has-take-below (λ x. isSeriesOf slot x and neg (has (pairIs (pair x)) series)) (λ i. isSeriesOf slot (getD us i []) and is (getD numbers i 0) 0) [] us absent-at (length us) (omega arith))
+      ∙ ap (has (λ x. isSeriesOf slot x and neg (has (pairIs (pair x)) series))) (take-all (length us) us (omega arith))
+      ∙ sym (has-keep-and (λ x. neg (has (pairIs (pair x)) series)) (isSeriesOf slot) us)
+
+pub rule-17-found : (free slot : ℕ) (us series : List Block) (x : Block) (places : List ℕ) (m : ℕ) → m ≡ length series → length series ≤ 1000 → Found slot Pair us series places
+    → less free (cond (isSender x) 0 1 + count (λ n. is n 0) (take m places)) ≡ rule17 x (keep (isSeriesOf slot) us) free series
+unfolding rule17 newBlocks
+rule-17-found free slot us series x places m e h a = ap (λ n. less free (cond (isSender x) 0 1 + n)) (new-counted slot us series places m e h a)
+
+-- ---- how many there can be
+
+pub sizes : (us series : Bytes) → Taken (cut 512 us) (cut 512 series) → (length us / 512 ≤ 1000) × (length series / 512 ≤ 1000)
+sizes us series k =
+    let a : length (cut 512 us) ≤ 1000 = k .few in
+    let b : length (cut 512 series) ≤ 200 = k .short in
+    (omega (arith, cut-length 512 us), omega (arith, cut-length 512 series))
