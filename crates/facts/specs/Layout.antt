@@ -13,7 +13,7 @@ use Rattle.laws.specs.Lists.{every, All}
 use Rattle.laws.specs.Lists.Each.{all-append, every-all, all-every}
 use Rattle.laws.specs.Bytes.{part, written, value, little, number}
 use Rattle.laws.specs.Bytes.Laws.{part-none, part-part, part-add, all-part, written-length, part-written-before, part-written-after, part-written-same, little-length, value-little, number-part}
-use Rattle.paper.specs.Layout.{Bytes, Block, zeros, kind, nOf, lead, clockPlus10080, dayOfBook, area, receiver, dayZeros, version, idOf, seriesCount, sender, dayOfMessage, nets, senderZeros, businessType, contractType, sendersSlot, inArea, outArea, inParty, outParty, pair, agreement, mark, state, first, partner, quantities, entry, quantity, aboveN, senderZerosInMessage, withClock, withSendersSlot, withMark, withNets, net}
+use Rattle.paper.specs.Layout.{Bytes, Block, zeros, kind, nOf, lead, clockPlus10080, dayOfBook, area, receiver, dayZeros, version, idOf, seriesCount, sender, dayOfMessage, nets, net, senderZeros, businessType, contractType, sendersSlot, inArea, outArea, inParty, outParty, pair, agreement, mark, state, first, partner, quantities, quantity, entry, aboveN, senderZerosInMessage, withClock, withSendersSlot, withMark, withNets}
 use Rattle.facts.specs.Check.{sealed-length, part-sealed}
 
 -- ---- lengths
@@ -211,34 +211,7 @@ alike-mark m x l = record {
   back = λ o n h f. part-with-mark-after m o n x l h f;
 }
 
--- the bytes of a series but sender's slot, mark and check
-unfoldable pub content : Block → Bytes
-content x = part 0 6 x ++ part 8 96 x ++ part 108 400 x
-
--- the bytes of a sender block but nets and check
-unfoldable pub headContent : Block → Bytes
-headContent s = part 0 108 s
-
-pub head-content-with-nets : (v : Bytes) (s : Block) → headContent (withNets v s) ≡ headContent s
-unfolding headContent
-head-content-with-nets v s = part-with-nets-before v 0 108 s (omega arith)
-
--- y has the bytes of x but those of mark and check
-pub record ButMark (x y : Block) : Type 0 where
-  pub before-mark : (o n : ℕ) → o + n ≤ 104 → part o n y ≡ part o n x
-  pub after-mark : (o n : ℕ) → 108 ≤ o → o + n ≤ 508 → part o n y ≡ part o n x
-
-pub but-mark-refl : (x : Block) → ButMark x x
-but-mark-refl x = record { before-mark = λ o n h. refl; after-mark = λ o n h f. refl }
-
-pub but-mark-with-mark : (m : Bytes) (x : Block) → length m ≡ 4 → ButMark x (withMark m x)
-but-mark-with-mark m x l = record { before-mark = λ o n h. part-with-mark-before m o n x h; after-mark = λ o n h f. part-with-mark-after m o n x l h f }
-
 module _ (x y : Block) (a : Alike x y) where
-  pub alike-content : content x ≡ content y
-  unfolding content
-  alike-content = rw (a .front 0 6 (omega arith), a .middle 8 96 (omega arith) (omega arith), a .back 108 400 (omega arith) (omega arith))
-
   pub alike-n : nOf x ≡ nOf y
   unfolding nOf number
   alike-n = ap value (a .front 1 1 (omega arith))

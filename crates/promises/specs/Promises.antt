@@ -1,5 +1,4 @@
--- THE PAGE OF PROMISES. Each promise is stated in the words of `paper`, with a few more that stand in Histories, and content, headContent and ButMark in the facts of
--- the layout; each proof is one line that cites the file that carries the weight.
+-- THE PAGE OF PROMISES. Each promise is stated in the words of `paper`, with a few more that stand in Words; each proof is one line that cites the file that carries the weight.
 use mathlib.Core.Path.{_≡_}
 use mathlib.Core.Bool.{true, false}
 use mathlib.Core.Option.{some, Option·map}
@@ -8,28 +7,27 @@ use Prim.Native.Nat.{ℕ, _+_, _*_}
 use lib.ListN.{length, drop}
 use Rattle.laws.specs.Lists.{find, nth}
 use Rattle.paper.specs.Layout.{Bytes, Block, nOf, sender, nets, sendersSlot, pair, mark, partner, quantities}
-use Rattle.paper.specs.Book.{dayBlock, used, freeSlots, isSeries, isSenderBlockOf, slotOf, isSeriesOf, ownSender, ownSeries, isSeriesOfPair}
+use Rattle.paper.specs.Book.{dayBlock, used, freeSlots, isSeries, isSenderBlockOf, slotOf, isSeriesOf, isSeriesOfPair, ownSender, ownSeries}
 use Rattle.paper.specs.Sound.{sound}
 use Rattle.paper.specs.Message.{headOf}
 use Rattle.paper.specs.Rules.{numberOf, verdict}
 use Rattle.paper.specs.Acceptance.{accepted, submitted}
+use Rattle.paper.specs.PlainRun.{plainRun}
 use Rattle.paper.specs.Finals.{held, final}
 use Rattle.paper.specs.Opening.{Opening, openNumber, opened}
 use Rattle.paper.specs.Clock.{clockAnswer, clockMoved}
-use Rattle.paper.specs.PlainRun.{plainRun}
 use Rattle.paper.specs.PlainRule.{plainHeld, otherParty, plainMark, plainNets}
 use Rattle.paper.specs.Calls.{Call, Desk, run}
-use Rattle.facts.specs.Layout.{content, headContent, ButMark}
-use Rattle.promises.specs.Histories.{begun, reached, Unopened, finalGiven, plainContent, plainHeadContent, isCounterpartOf, Determines}
 use Rattle.facts.specs.Verdict.{accepts}
-use Rattle.promises.specs.ReadBack.{day-block-accepted}
-use Rattle.promises.specs.Refusals.{opening-refused, clock-refused, submission-refused}
-use Rattle.promises.specs.Soundness.{opened-sound, moved-sound, submitted-sound}
-use Rattle.promises.specs.Invariant.{Invariant, held-plain, content-plain, invariant-opened, invariant-run}
-use Rattle.promises.specs.PlainMarks.{sender-named, mark-plain, partner-plain, says-yes}
-use Rattle.promises.specs.Finals.{final-stays}
-use Rattle.promises.specs.Others.{others-kept, rest-kept}
-use Rattle.promises.specs.Isolation.{verdict-isolated, determined}
+use Rattle.promises.specs.Laws.Finals.{final-stays}
+use Rattle.promises.specs.Laws.Invariant.{Invariant, held-plain, content-plain, invariant-opened, invariant-run}
+use Rattle.promises.specs.Laws.Isolation.{verdict-isolated, determined}
+use Rattle.promises.specs.Laws.Others.{others-kept, rest-kept}
+use Rattle.promises.specs.Laws.PlainMarks.{sender-named, mark-plain, partner-plain, says-yes}
+use Rattle.promises.specs.Laws.ReadBack.{day-block-accepted}
+use Rattle.promises.specs.Laws.Refusals.{opening-refused, clock-refused, submission-refused}
+use Rattle.promises.specs.Laws.Soundness.{opened-sound, moved-sound, submitted-sound}
+use Rattle.promises.specs.Words.{content, headContent, ButMark, begun, reached, Unopened, finalGiven, plainContent, plainHeadContent, isCounterpartOf, Determines}
 
 -- ---- 1. Soundness is kept, and a refusal changes nothing
 

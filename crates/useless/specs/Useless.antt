@@ -24,7 +24,7 @@ use Rattle.paper.specs.PlainRule.{orElse, latest, plainMark, plainNets}
 use Rattle.paper.specs.Calls.{submission, step, run}
 use Rattle.facts.specs.Layout.{mark-state}
 use Rattle.facts.specs.Book.{kind-series}
-use Rattle.promises.specs.Refusals.{submission-accepted}
+use Rattle.promises.specs.Laws.Refusals.{submission-accepted}
 use Rattle.promises.specs.Promises.{nets-are-the-plain-rules, marks-are-the-plain-rules, day-block-stays}
 use Rattle.cases.specs.Opened.{paper}
 use Rattle.cases.specs.Case.{once}

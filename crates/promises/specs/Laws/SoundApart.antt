@@ -23,7 +23,7 @@ use Rattle.facts.specs.Pairs.{pair-is-equal}
 use Rattle.facts.specs.Remarking.{alike-remarked, series-remarked, senders-slot-remarked, pair-remarked, sender-block-remarked}
 use Rattle.facts.specs.Renewal.{Shape, shape, series-with-senders-slot, sender-kept-sender, sender-kept-no-series, by-renewed, series-renewed, renewed-keeps, sender-block-renewed, renewed-others-series, adopted, by-fresh}
 use Rattle.facts.specs.Senders.{owned, own-series}
-use Rattle.promises.specs.Parts.{senderSlot, newOf, placedOf, remarkedOf, afterOf, Acceptance, parts}
+use Rattle.promises.specs.Laws.Parts.{senderSlot, newOf, placedOf, remarkedOf, afterOf, Acceptance, parts}
 
 -- ---- two blocks of one sender
 

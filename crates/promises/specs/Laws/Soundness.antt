@@ -29,11 +29,11 @@ use Rattle.facts.specs.Book.{day-block-append, slots-append, free-right}
 use Rattle.facts.specs.Sound.{Sound, is-sound, day-block-length}
 use Rattle.facts.specs.Verdict.{Accepts, accepts}
 use Rattle.facts.specs.Calls.{Moves, moves, Opens, opens}
-use Rattle.promises.specs.ReadBack.{used-accepted, day-block-accepted, accepted-length}
-use Rattle.promises.specs.SoundBytes.{book-long, checks-parted, checks-joined, checks-kept, free-kept}
-use Rattle.promises.specs.SoundApart.{senders-kept, series-kept}
-use Rattle.promises.specs.SoundSenders.{each-kept}
-use Rattle.promises.specs.Refusals.{submission-accepted}
+use Rattle.promises.specs.Laws.ReadBack.{used-accepted, day-block-accepted, accepted-length}
+use Rattle.promises.specs.Laws.SoundBytes.{book-long, checks-parted, checks-joined, checks-kept, free-kept}
+use Rattle.promises.specs.Laws.SoundApart.{senders-kept, series-kept}
+use Rattle.promises.specs.Laws.SoundSenders.{each-kept}
+use Rattle.promises.specs.Laws.Refusals.{submission-accepted}
 
 -- ---- an acceptance
 

@@ -3,18 +3,24 @@
 use mathlib.Core.Path.{_≡_}
 use mathlib.Core.Bool.{cond}
 use Prim.Native.Nat.{ℕ}
+use native.Mathlib.Omega.{arith}
 use Rattle.laws.specs.Lists.{same}
 use Rattle.paper.specs.Layout.{Bytes, Block, nOf, sender, quantities, withSendersSlot}
 use Rattle.paper.specs.Book.{dayBlock, used, pairIs}
 use Rattle.paper.specs.Message.{headOf, seriesOf}
-use Rattle.facts.specs.Layout.{quantities-with-senders-slot, alike-senders-slot, content, alike-content}
+use Rattle.facts.specs.Layout.{quantities-with-senders-slot, Alike, alike-senders-slot}
 use Rattle.facts.specs.Verdict.{Accepts}
 use Rattle.facts.specs.Pairs.{viewFound, viewHeld}
 use Rattle.facts.specs.Renewal.{shape}
 use Rattle.facts.specs.Remarking.{alike-remarked, quantities-remarked}
 use Rattle.facts.specs.Senders.{owned, own-series}
 use Rattle.facts.specs.Stored.{held-after}
-use Rattle.promises.specs.Parts.{remarkedOf, afterOf}
+use Rattle.promises.specs.Laws.Parts.{remarkedOf, afterOf}
+use Rattle.promises.specs.Words.{content}
+
+alike-content : (x y : Block) → Alike x y → content x ≡ content y
+unfolding content
+alike-content x y a = rw (a .front 0 6 (omega arith), a .middle 8 96 (omega arith) (omega arith), a .back 108 400 (omega arith) (omega arith))
 
 module _ (book message : Bytes) (a : Accepts book message) where
   after : (view : Block → Bytes) → ((slot : ℕ) (y : Block) → view (withSendersSlot slot y) ≡ view y) → ((b : Block) → view (remarkedOf book message b) ≡ view b) →

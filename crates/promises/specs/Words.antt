@@ -1,20 +1,34 @@
--- The words of the promises: a desk just opened, the desk after some calls, calls that do not open the book again, and a promise that determines what it promises.
+-- The words of the promises that are not the paper's: what is kept of a block, a desk just opened, the desk after some calls, calls that do not open the book
+-- again, and a promise that determines what it promises.
 use mathlib.Core.Path.{_≡_}
 use mathlib.Core.Bool.{Bool}
 use mathlib.Core.Option.{Option, Option·map}
-use mathlib.Core.List.{List, [], _∷_}
-use Prim.Native.Nat.{ℕ}
+use mathlib.Core.List.{List, [], _∷_, _++_}
+use Prim.Native.Nat.{ℕ, _+_, _≤_}
 use Rattle.laws.specs.Tests.{_and_}
 use Rattle.laws.specs.Lists.{find, has}
+use Rattle.laws.specs.Bytes.{part}
 use Rattle.paper.specs.declared.FinalAnswer.{FinalAnswer}
 use Rattle.paper.specs.Layout.{Bytes, Block, pair}
-use Rattle.paper.specs.Book.{slotOf, isSeriesOf, pairIs}
+use Rattle.paper.specs.Book.{pairIs, slotOf, isSeriesOf}
 use Rattle.paper.specs.Message.{headOf}
 use Rattle.paper.specs.Marks.{isCounterpart}
 use Rattle.paper.specs.Opening.{Opening, openNumber, opened}
 use Rattle.paper.specs.PlainRule.{latest, seriesOfLatest}
-use Rattle.paper.specs.Calls.{Call, Desk, step, run, opening, clockMove, submission, reading}
-use Rattle.facts.specs.Layout.{content, headContent}
+use Rattle.paper.specs.Calls.{Call, Desk, step, run, clockMove, submission, reading, opening}
+
+-- the bytes of a series but sender's slot, mark and check
+unfoldable pub content : Block → Bytes
+content x = part 0 6 x ++ part 8 96 x ++ part 108 400 x
+
+-- the bytes of a sender block but nets and check
+unfoldable pub headContent : Block → Bytes
+headContent s = part 0 108 s
+
+-- y has the bytes of x but those of mark and check
+pub record ButMark (x y : Block) : Type 0 where
+  pub before-mark : (o n : ℕ) → o + n ≤ 104 → part o n y ≡ part o n x
+  pub after-mark : (o n : ℕ) → 108 ≤ o → o + n ≤ 508 → part o n y ≡ part o n x
 
 -- the desk after an opening, with no message accepted yet
 abbrev pub begun : Bytes → Opening → Desk

@@ -16,8 +16,8 @@ use Rattle.facts.specs.Verdict.{Accepts}
 use Rattle.facts.specs.Remarking.{series-remarked, sender-block-remarked}
 use Rattle.facts.specs.Renewal.{Shape, shape, series-renewed, sender-block-renewed}
 use Rattle.facts.specs.Senders.{slot-for-known, slot-for-new, slot-of-none, slot-of-positive, slot-after-own}
-use Rattle.promises.specs.Parts.{senderSlot, placedOf, afterOf, Acceptance, parts}
-use Rattle.promises.specs.ReadBack.{after-fits}
+use Rattle.promises.specs.Laws.Parts.{senderSlot, placedOf, afterOf, Acceptance, parts}
+use Rattle.promises.specs.Laws.ReadBack.{after-fits}
 
 module _ (book message : Bytes) (a : Accepts book message) where
   open Acceptance (parts book message) using (us, h, series, again, now, put, after)

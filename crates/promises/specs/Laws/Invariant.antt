@@ -8,7 +8,7 @@ use Rattle.laws.specs.Tests.{is}
 use Rattle.laws.specs.Tests.Laws.{split, is-yes, is-no}
 use Rattle.laws.specs.Lists.{same, find}
 use Rattle.paper.specs.Layout.{Bytes, Block, nOf, sender, nets, quantities}
-use Rattle.paper.specs.Book.{dayBlock, used, isSenderBlockOf, slotOf, pairIs, isSeriesOfPair}
+use Rattle.paper.specs.Book.{dayBlock, used, pairIs, isSenderBlockOf, slotOf, isSeriesOfPair}
 use Rattle.paper.specs.Message.{headOf, seriesOf}
 use Rattle.paper.specs.Rules.{numberOf, verdict}
 use Rattle.paper.specs.Nets.{netsOf}
@@ -17,21 +17,21 @@ use Rattle.paper.specs.Finals.{held}
 use Rattle.paper.specs.Opening.{Opening, openNumber, opened}
 use Rattle.paper.specs.Clock.{clockAnswer, clockMoved}
 use Rattle.paper.specs.PlainRule.{orElse, latest, seriesOfLatest, plainHeld, plainNets}
-use Rattle.paper.specs.Calls.{Call, Desk, step, run, opening, clockMove, submission, reading}
-use Rattle.facts.specs.Layout.{n-with-clock, content, headContent}
+use Rattle.paper.specs.Calls.{Call, Desk, step, run, submission, reading, opening, clockMove}
+use Rattle.facts.specs.Layout.{n-with-clock}
 use Rattle.facts.specs.Book.{used-lengths}
 use Rattle.facts.specs.Sound.{Sound}
 use Rattle.facts.specs.Verdict.{Accepts, accepts}
 use Rattle.facts.specs.Calls.{Moves, moves, Opens, opens}
 use Rattle.facts.specs.Pairs.{viewFound, viewHeld, held-viewed}
 use Rattle.facts.specs.Renewal.{shape}
-use Rattle.promises.specs.Histories.{plainContent, plainHeadContent}
-use Rattle.promises.specs.Marks.{MarksTrue, marks-kept}
-use Rattle.promises.specs.NetsTrue.{NetsTrue, nets-kept, nets-after, head-content-after}
-use Rattle.promises.specs.ReadBack.{used-accepted, day-block-accepted}
-use Rattle.promises.specs.Refusals.{opening-refused, clock-refused, submission-refused, submission-accepted}
-use Rattle.promises.specs.Soundness.{sound-accepted, day-block-moved, used-moved, sound-moved, used-opened, sound-opened}
-use Rattle.promises.specs.Stored.{held-accepted, content-accepted}
+use Rattle.promises.specs.Laws.Marks.{MarksTrue, marks-kept}
+use Rattle.promises.specs.Laws.NetsTrue.{NetsTrue, nets-kept, nets-after, head-content-after}
+use Rattle.promises.specs.Laws.ReadBack.{used-accepted, day-block-accepted}
+use Rattle.promises.specs.Laws.Refusals.{opening-refused, clock-refused, submission-refused, submission-accepted}
+use Rattle.promises.specs.Laws.Soundness.{sound-accepted, day-block-moved, used-moved, sound-moved, used-opened, sound-opened}
+use Rattle.promises.specs.Laws.Stored.{held-accepted, content-accepted}
+use Rattle.promises.specs.Words.{content, headContent, plainContent, plainHeadContent}
 
 -- ---- the messages, one longer
 

@@ -27,8 +27,8 @@ use Rattle.facts.specs.Pairs.{pair-is-yes, series-of-kept}
 use Rattle.facts.specs.Remarking.{remarked-keeps}
 use Rattle.facts.specs.Renewal.{Shape, shape, series-with-senders-slot, sender-kept-no-series, renewed-own, renewed-keeps, renewed-others-series, adopted, fresh-slots}
 use Rattle.facts.specs.Senders.{owned, own-series}
-use Rattle.promises.specs.Parts.{senderSlot, newOf, afterOf, Acceptance, parts}
-use Rattle.promises.specs.SoundApart.{same-series-yes, same-pair-yes}
+use Rattle.promises.specs.Laws.Parts.{senderSlot, newOf, afterOf, Acceptance, parts}
+use Rattle.promises.specs.Laws.SoundApart.{same-series-yes, same-pair-yes}
 
 pair-is-swap : (x y : Block) → pairIs (pair x) y ≡ pairIs (pair y) x
 unfolding pairIs

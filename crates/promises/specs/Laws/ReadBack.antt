@@ -23,7 +23,7 @@ use Rattle.facts.specs.Sound.{Sound, day-block-length, used-kind}
 use Rattle.facts.specs.Verdict.{Accepts}
 use Rattle.facts.specs.Renewal.{Shape, shape, series-with-senders-slot, sender-kept-is-sender, sender-kept-no-series, renewed-sender, renewed-other, series-renewed, by-origin, placed-lengths, placed-fits, placed-length}
 use Rattle.facts.specs.Remarking.{remarked-no-series, series-remarked, remarked-length}
-use Rattle.promises.specs.Parts.{afterOf}
+use Rattle.promises.specs.Laws.Parts.{afterOf}
 
 -- ---- no block is free
 

@@ -24,18 +24,18 @@ use Rattle.paper.specs.Opening.{openNumber}
 use Rattle.paper.specs.Clock.{clockAnswer, clockMoved}
 use Rattle.paper.specs.Calls.{Call, Desk, step, run, opening, clockMove, submission, reading}
 use Rattle.facts.specs.Layout.{clock-with-clock, n-with-clock, lead-with-clock, entry-quantities, quantity-nothing, entry-nothing}
-use Rattle.promises.specs.Histories.{NotOpened, Unopened, finalGiven}
+use Rattle.promises.specs.Words.{NotOpened, Unopened, finalGiven}
 use Rattle.facts.specs.Sound.{Sound, sound-says, is-sound, day-n, day-block-length}
 use Rattle.facts.specs.Verdict.{Line, Accepts, accepts}
 use Rattle.facts.specs.Calls.{Moves, moves}
 use Rattle.facts.specs.Pairs.{pair-is-yes, of-pair-own, of-pair-other, viewFound, viewHeld}
-use Rattle.promises.specs.Parts.{Acceptance, parts}
-use Rattle.promises.specs.Stored.{held-accepted}
+use Rattle.promises.specs.Laws.Parts.{Acceptance, parts}
+use Rattle.promises.specs.Laws.Stored.{held-accepted}
 use Rattle.facts.specs.Stored.{present-pair}
-use Rattle.promises.specs.ReadBack.{used-accepted, day-block-accepted}
-use Rattle.promises.specs.Refusals.{opening-refused, clock-refused, submission-refused, submission-accepted}
-use Rattle.promises.specs.Soundness.{day-block-moved, used-moved}
-use Rattle.promises.specs.Invariant.{Invariant, invariant-run}
+use Rattle.promises.specs.Laws.ReadBack.{used-accepted, day-block-accepted}
+use Rattle.promises.specs.Laws.Refusals.{opening-refused, clock-refused, submission-refused, submission-accepted}
+use Rattle.promises.specs.Laws.Soundness.{day-block-moved, used-moved}
+use Rattle.promises.specs.Laws.Invariant.{Invariant, invariant-run}
 
 -- what a reading at a closed position rests on: position k + 1
 record Later (b c : Bytes) : Type 0 where

@@ -5,26 +5,28 @@ use mathlib.Core.Bool.{true, false, cond}
 use mathlib.Core.Option.{Option, none, some, Option·map}
 use mathlib.Core.List.{List, map}
 use Prim.Native.Nat.{ℕ, _<_}
+use native.Mathlib.Omega.{arith}
 use Rattle.laws.specs.Tests.{is}
 use Rattle.laws.specs.Tests.Laws.{split}
 use Rattle.laws.specs.Lists.{same, find, has, keep, All}
 use Rattle.laws.specs.Lists.Same.{same-yes, same-no}
-use Rattle.laws.specs.Lists.Search.{has-yes, find-passes, find-append-first, find-append-second, find-append-only, find-map, has-map-each}
+use Rattle.laws.specs.Lists.Search.{has-yes, find-passes, find-append-first, find-append-second, find-append-only, has-map-each, find-map}
 use Rattle.paper.specs.Layout.{Bytes, Block, nOf, sender, nets, inParty, outParty, quantity, withSendersSlot}
 use Rattle.paper.specs.Book.{dayBlock, used, isSender, isSeries, isSenderBlockOf, slotOf, isSeriesOf, ownSeries}
 use Rattle.paper.specs.Message.{headOf, seriesOf}
 use Rattle.paper.specs.Nets.{bought, sold, netsOf}
 use Rattle.paper.specs.Acceptance.{senderKept, fresh, placed, usedAfter}
-use Rattle.facts.specs.Layout.{nets-with-nets, Alike, alike-senders-slot, headContent, head-content-with-nets, alike-in-party, alike-out-party, alike-quantity}
+use Rattle.facts.specs.Layout.{part-with-nets-before, nets-with-nets, Alike, alike-senders-slot, alike-in-party, alike-out-party, alike-quantity}
 use Rattle.facts.specs.Book.{sender-not-series, sender-block-sender, sender-block-eic, sender-block-yes, series-of-other}
 use Rattle.facts.specs.Verdict.{Accepts}
-use Rattle.facts.specs.Remarking.{remarked-no-series, alike-remarked, sender-block-remarked}
 use Rattle.facts.specs.Renewal.{Shape, shape, sender-kept-sender, sender-kept-is-sender, renewed-sender, renewed-other, sender-block-renewed}
+use Rattle.facts.specs.Remarking.{remarked-no-series, alike-remarked, sender-block-remarked}
 use Rattle.facts.specs.Senders.{slots-differ, fresh-new, fresh-no-sender-block, slot-after-own, slot-after-other}
-use Rattle.promises.specs.Parts.{afterOf, Acceptance, parts}
-use Rattle.promises.specs.Sums.{total-own, total-other}
-use Rattle.promises.specs.Nets.{nets-of-length, nets-agree}
-use Rattle.promises.specs.SoundSenders.{by-sender}
+use Rattle.promises.specs.Laws.Nets.{nets-of-length, nets-agree}
+use Rattle.promises.specs.Laws.Parts.{afterOf, Acceptance, parts}
+use Rattle.promises.specs.Laws.SoundSenders.{by-sender}
+use Rattle.promises.specs.Laws.Sums.{total-own, total-other}
+use Rattle.promises.specs.Words.{headContent}
 
 unfoldable pub NetsTrue : List Block → Type 0
 NetsTrue us = All (λ s. isSender s ≡ true → nets s ≡ netsOf (sender s) (ownSeries us (sender s))) us
@@ -129,8 +131,8 @@ module _ (book message : Bytes) (a : Accepts book message) where
       (λ t. rw t (ap some (nets-sender-kept ∙ ap (λ z. netsOf z series) (same-yes _ _ t)))) (λ t. rw t)
 
   head-content-kept : headContent (senderKept h series) ≡ headContent h
-  unfolding senderKept
-  head-content-kept = head-content-with-nets _ h
+  unfolding senderKept headContent
+  head-content-kept = part-with-nets-before _ 0 108 h (omega arith)
 
   pub head-content-after : (e : Bytes) → Option·map headContent (find (isSenderBlockOf e) (afterOf book message)) ≡ cond (same (sender (headOf message)) e)
       (some (headContent (headOf message))) (Option·map headContent (find (isSenderBlockOf e) (used book)))

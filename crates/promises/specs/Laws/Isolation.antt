@@ -7,7 +7,7 @@ use Rattle.paper.specs.Book.{dayBlock, used, freeSlots, ownSender, ownSeries}
 use Rattle.paper.specs.Sound.{sound}
 use Rattle.paper.specs.Message.{headOf}
 use Rattle.paper.specs.Rules.{rule1, verdict}
-use Rattle.promises.specs.Histories.{Determines}
+use Rattle.promises.specs.Words.{Determines}
 
 pub verdict-isolated : (book other message : Bytes) → sound book ≡ true → sound other ≡ true → dayBlock book ≡ dayBlock other
     → ownSender (used book) (sender (headOf message)) ≡ ownSender (used other) (sender (headOf message))

@@ -25,11 +25,11 @@ use Rattle.facts.specs.Verdict.{series-some-few, Line, Accepts}
 use Rattle.facts.specs.Remarking.{remarked-no-series, series-remarked}
 use Rattle.facts.specs.Renewal.{Shape, shape, series-with-senders-slot, sender-kept-sender, sender-kept-no-series, renewed-sender, renewed-other, series-renewed, by-origin}
 use Rattle.facts.specs.Senders.{slots-differ, slot-after-own, slot-after-other}
-use Rattle.promises.specs.Parts.{ownOf, afterOf, Acceptance, parts}
-use Rattle.promises.specs.ReadBack.{live-after}
-use Rattle.promises.specs.SoundSeries.{each-series-kept}
-use Rattle.promises.specs.Sums.{total-own, total-other}
-use Rattle.promises.specs.Nets.{nets-allowed}
+use Rattle.promises.specs.Laws.Parts.{ownOf, afterOf, Acceptance, parts}
+use Rattle.promises.specs.Laws.ReadBack.{live-after}
+use Rattle.promises.specs.Laws.SoundSeries.{each-series-kept}
+use Rattle.promises.specs.Laws.Sums.{total-own, total-other}
+use Rattle.promises.specs.Laws.Nets.{nets-allowed}
 
 pub others-eic : (e : Bytes) (x : Block) → isSender x ≡ true → isSenderBlockOf e x ≡ false → same e (sender x) ≡ false
 others-eic e x s n = split (same e (sender x)) (λ t. clash (sender-block-yes e x s (sym (same-yes _ _ t))) n) (λ t. t)

@@ -24,13 +24,13 @@ use Rattle.paper.specs.PlainRule.{plainHeld, otherParty, plainMark}
 use Rattle.facts.specs.Layout.{mark-partner}
 use Rattle.facts.specs.Sound.{is-sound, used-few}
 use Rattle.facts.specs.Pairs.{pair-is-equal, of-pair-yes, of-pair-series, of-pair-slot, of-pair-pair, viewFound, viewHeld, held-viewed}
-use Rattle.promises.specs.Marks.{MarksTrue}
+use Rattle.promises.specs.Laws.Marks.{MarksTrue}
 use Rattle.facts.specs.Senders.{slot-of-one, Owner, Owned, owned}
-use Rattle.promises.specs.SoundApart.{same-series-yes, same-pair-yes}
-use Rattle.promises.specs.SoundSeries.{partner-in}
-use Rattle.promises.specs.NetsTrue.{NetsTrue}
-use Rattle.promises.specs.Invariant.{Invariant, held-plain}
-use Rattle.promises.specs.Sides.{sides}
+use Rattle.promises.specs.Laws.SoundApart.{same-series-yes, same-pair-yes}
+use Rattle.promises.specs.Laws.SoundSeries.{partner-in}
+use Rattle.promises.specs.Laws.NetsTrue.{NetsTrue}
+use Rattle.promises.specs.Laws.Invariant.{Invariant, held-plain}
+use Rattle.promises.specs.Laws.Sides.{sides}
 
 -- ---- a series is the one that its sender has under its pair
 

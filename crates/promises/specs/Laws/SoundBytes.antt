@@ -22,9 +22,9 @@ use Rattle.facts.specs.Sound.{Sound}
 use Rattle.facts.specs.Verdict.{Accepts}
 use Rattle.facts.specs.Remarking.{remarked-touched, remarked-untouched}
 use Rattle.facts.specs.Renewal.{Shape, shape, series-with-senders-slot, sender-kept-length, renewed-sender, renewed-other, series-renewed, renewed-keeps, renewed-length, adopted, by-origin}
-use Rattle.promises.specs.Marks.{own-touched}
-use Rattle.promises.specs.Parts.{afterOf}
-use Rattle.promises.specs.ReadBack.{free-from, after-most, used-accepted, slots-accepted, day-block-accepted, accepted-length}
+use Rattle.promises.specs.Laws.Marks.{own-touched}
+use Rattle.promises.specs.Laws.Parts.{afterOf}
+use Rattle.promises.specs.Laws.ReadBack.{free-from, after-most, used-accepted, slots-accepted, day-block-accepted, accepted-length}
 
 -- ---- a book's checks
 

@@ -30,9 +30,9 @@ use Rattle.facts.specs.Verdict.{Line, Accepts}
 use Rattle.facts.specs.Pairs.{counterpart-series}
 use Rattle.facts.specs.Remarking.{remarked-touched, remarked-untouched, alike-remarked, series-remarked, senders-slot-remarked, pair-remarked}
 use Rattle.facts.specs.Renewal.{Shape, shape, series-with-senders-slot, sender-kept-no-series, by-renewed, series-renewed, renewed-keeps, renewed-length, renewed-others-series, adopted, by-origin}
-use Rattle.promises.specs.Marks.{own-touched}
-use Rattle.promises.specs.Parts.{afterOf, Acceptance, parts}
-use Rattle.promises.specs.SoundSlots.{placed-few, series-placed, series-stored, sender-stored, sender-there}
+use Rattle.promises.specs.Laws.Marks.{own-touched}
+use Rattle.promises.specs.Laws.Parts.{afterOf, Acceptance, parts}
+use Rattle.promises.specs.Laws.SoundSlots.{placed-few, series-placed, series-stored, sender-stored, sender-there}
 
 -- ---- a series' fields, sender's slot and mark apart
 

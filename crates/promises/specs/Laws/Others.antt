@@ -1,6 +1,6 @@
 -- An acceptance renews the sender's own blocks alone, and marks anew besides these only series with a pair of the sender's, which are its counterparts: any
 -- other block keeps its slot and every byte; and nothing is written before the used slots or behind them.
-use mathlib.Core.Path.{_≡_, sym, ap, _∙_}
+use mathlib.Core.Path.{_≡_, sym, ap, _∙_, refl}
 use mathlib.Core.Bool.{true, false}
 use mathlib.Core.Option.{some, Option·map}
 use mathlib.Core.List.{List, _++_, map}
@@ -16,23 +16,24 @@ use Rattle.laws.specs.Cut.{join}
 use Rattle.paper.specs.Layout.{Bytes, Block, nOf, sender, sendersSlot, pair}
 use Rattle.paper.specs.Book.{dayBlock, used, isSeries, isSenderBlockOf, slotOf, isSeriesOf, isSeriesOfPair}
 use Rattle.paper.specs.Message.{headOf, seriesOf}
-use Rattle.paper.specs.Marks.{isCounterpart, markIn}
+use Rattle.paper.specs.Marks.{isCounterpart}
 use Rattle.paper.specs.Acceptance.{fresh, placed, touched, remarked, usedAfter, accepted}
-use Rattle.facts.specs.Layout.{ButMark, but-mark-refl, but-mark-with-mark}
+use Rattle.facts.specs.Layout.{part-with-mark-before, part-with-mark-after}
 use Rattle.facts.specs.Book.{series-of-yes}
-use Rattle.promises.specs.Histories.{isCounterpartOf}
 use Rattle.facts.specs.Verdict.{Accepts}
 use Rattle.facts.specs.Pairs.{pair-is-equal, of-pair-series, of-pair-slot, of-pair-pair, of-pair-kept}
-use Rattle.facts.specs.Remarking.{mark-in-length, remarked-touched, remarked-untouched, remarked-keeps}
 use Rattle.facts.specs.Renewal.{Shape, shape, renewed-other}
+use Rattle.facts.specs.Remarking.{mark-in-length, remarked-touched, remarked-untouched, remarked-keeps}
 use Rattle.facts.specs.Senders.{owned, own-by-slot-for, slot-after-own}
-use Rattle.promises.specs.Parts.{Acceptance, parts}
-use Rattle.promises.specs.ReadBack.{used-accepted, accepted-front}
+use Rattle.promises.specs.Laws.Parts.{Acceptance, parts}
+use Rattle.promises.specs.Laws.ReadBack.{used-accepted, accepted-front}
+use Rattle.promises.specs.Words.{ButMark, isCounterpartOf}
 
 but-mark-remarked : (n slot : ℕ) (l : List Block) (x : Block) → ButMark x (remarked n slot l x)
 but-mark-remarked n slot l x = split (touched slot l x)
-    (λ t. rw (remarked-touched n slot l x t) (but-mark-with-mark (markIn n l x) x (mark-in-length n l x)))
-    (λ t. rw (remarked-untouched n slot l x t) (but-mark-refl x))
+    (λ t. rw (remarked-touched n slot l x t)
+    (record { before-mark = λ o n h. part-with-mark-before _ o n x h; after-mark = λ o k h f. part-with-mark-after _ o k x (mark-in-length n l x) h f }))
+    (λ t. rw (remarked-untouched n slot l x t) (record { before-mark = λ o n h. refl; after-mark = λ o n h f. refl }))
 
 touched-pair : (slot : ℕ) (l : List Block) (x : Block) → isSeriesOf slot x ≡ false → touched slot l x ≡ true → (isSeries x ≡ true) ×
     (is (sendersSlot x) slot ≡ false) × (has (isSeriesOfPair slot (pair x)) l ≡ true)

@@ -1,0 +1,25 @@
+-- The reasons for the promises, from what an acceptance does to a block up to all sequences of calls.
+-- an acceptance is read back as it was written
+pub mod Parts
+pub mod Stored
+pub mod Marks
+pub mod ReadBack
+pub mod Others
+-- soundness is kept
+pub mod SoundBytes
+pub mod SoundApart
+pub mod SoundSlots
+pub mod SoundSeries
+pub mod Sums
+pub mod Nets
+pub mod SoundSenders
+pub mod Refusals
+pub mod Soundness
+-- demand 3
+pub mod NetsTrue
+pub mod Invariant
+pub mod Sides
+pub mod PlainMarks
+pub mod Finals
+-- isolation, determinacy
+pub mod Isolation
