@@ -1,8 +1,8 @@
 -- Turns of a loop that writes a row of bytes over another: what is left to write, over what is written, gives the whole.
-use mathlib.Core.Path.{_≡_, refl, sym, ap, _∙_}
+use mathlib.Core.Path.{_≡_, sym, _∙_}
 use mathlib.Core.Logic.{⊎-elim}
 use mathlib.Core.List.{List}
-use Prim.Native.Nat.{ℕ, _+_, _≤_, _<_, min}
+use Prim.Native.Nat.{ℕ, _+_, _≤_, min}
 use native.Mathlib.Omega.{arith}
 use lib.ListN.{length, drop, set, drop-of-length-le}
 use Rattle.laws.specs.Tests.Laws.{lt-or}

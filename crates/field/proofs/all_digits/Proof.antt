@@ -24,8 +24,8 @@ all-digits-spec =
     μ-loop
     (λ c. (omega arith, every-start _ _))
     (search needs)
-    (search needs)
-    (search needs)
-    (search needs)
+    (λ c κs. tt)
+    (λ c. omega arith)
+    (λ c. omega arith)
     more
     (λ c. every-end _ _ (c .before .loop .inv .1) (end-list _ _ (c .loop-test .left))))

@@ -28,4 +28,4 @@ unfolding zeros is
 returns c = every-end _ _ (c .before .loop .inv .1) (end-list _ _ (c .loop-test .left))
 
 pub all-zero-spec : {M : Type 1} → statement M
-all-zero-spec = tie.close (tie.spec Inv-loop μ-loop starts (search needs) (λ c κs. search needs) (search needs) (search needs) more returns)
+all-zero-spec = tie.close (tie.spec Inv-loop μ-loop starts (search needs) (λ c κs. tt) (λ c. omega arith) (λ c. omega arith) more returns)

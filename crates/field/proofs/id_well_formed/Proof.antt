@@ -1,5 +1,5 @@
 -- The field is cut where its text ends: the characters stand before, the zero bytes behind.
-use Rattle.laws.specs.Kit.{sym, ap, _∙_, needs}
+use Rattle.laws.specs.Kit.{arith, sym, ap, _∙_}
 use lib.Seq.{length-take-le}
 use denote.Ref.{now}
 use Rattle.laws.specs.Tests.{_and_, is, upto}
@@ -25,11 +25,11 @@ pub id-well-formed-spec : {M : Type 1} → statement M
 id-well-formed-spec =
     tie.close
     (tie.spec
-    (search needs)
+    (λ c κs. tt)
     (λ c. sym (length-take-le _ _ (c .before .length-before .ensures .1)))
-    (search needs)
-    (search needs)
-    (search needs)
-    (search needs)
-    (search needs)
+    (λ c κs. tt)
+    (λ c. omega arith)
+    (λ c. omega arith)
+    (λ c. omega arith)
+    (λ c κs. tt)
     returns)

@@ -1,5 +1,5 @@
 -- What stands before the first x is the front of the bytes, as long as was counted.
-use Rattle.laws.specs.Kit.{_∙_, needs}
+use Rattle.laws.specs.Kit.{arith, _∙_}
 use Rattle.laws.specs.Lists.Keep.{until-take}
 use Rattle.laws.specs.Bytes.{part}
 use Rattle.field.proofs.part_before.Statement.{statement}
@@ -10,4 +10,4 @@ unfolding part
 returns c = c .part-of .ensures ∙ until-take _ _ _ (c .before .length-before .ensures .0)
 
 pub part-before-spec : {M : Type 1} → statement M
-part-before-spec = tie.close (tie.spec (search needs) (search needs) returns)
+part-before-spec = tie.close (tie.spec (λ c κs. tt) (λ c κs. tt) returns)

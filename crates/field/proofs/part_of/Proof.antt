@@ -1,5 +1,5 @@
 -- A part that would go past the end is what lies up to the end, and one that starts there is empty.
-use Rattle.laws.specs.Kit.{sym, add-sub-cancel-left, needs}
+use Rattle.laws.specs.Kit.{arith, sym, add-sub-cancel-left}
 use Rattle.laws.specs.Bytes.{part}
 use Rattle.laws.specs.Slices.{part-past, part-slice-short}
 use Rattle.field.proofs.part_of.Statement.{statement}
@@ -13,15 +13,15 @@ pub part-of-spec : {M : Type 1} → statement M
 part-of-spec =
     tie.close
     (tie.spec
-    (search needs)
+    (λ c. omega arith)
     (λ c. sym (part-past _ _ _ (c .before .if1 .taken)))
-    (search needs)
-    (search needs)
-    (search needs)
-    (search needs)
+    (λ c. omega arith)
+    (λ c. omega arith)
+    (λ c. omega arith)
+    (λ c. omega arith)
     (λ c. part-slice-short _ _ _ (c .before .if2 .taken))
-    (search needs)
-    (search needs)
-    (search needs)
-    (search needs)
+    (λ c. omega arith)
+    (λ c. omega arith)
+    (λ c. omega arith)
+    (λ c. omega arith)
     whole)

@@ -26,7 +26,7 @@ same-bytes-spec =
     (λ c. (omega arith, omega arith, same-start _ _))
     (search needs)
     (search needs)
-    (search needs)
-    (search needs)
+    (λ c. omega arith)
+    (λ c. omega arith)
     more
     (λ c. same-end _ (c .before .loop .inv .2) (end-list _ _ (c .loop-test .left)) (end-list _ _ (omega arith))))

@@ -2,7 +2,7 @@
 use Rattle.laws.specs.Kit.{needs, arith, _≡_, _≤_, _-_, _/_, length, take}
 use Rattle.laws.specs.Cut.{cut}
 use Rattle.nets.specs.Sums.{Raised, share, shares}
-use Rattle.nets.proofs.Raising.{shares-none, shares-more, shares-all}
+use Rattle.nets.proofs.Laws.Raising.{shares-none, shares-more, shares-all}
 use Rattle.nets.proofs.add_all.Statement.{statement}
 use Rattle.nets.proofs.add_all.Tie as tie
 
@@ -25,10 +25,10 @@ add-all-spec =
     Inv-loop
     μ-loop
     (λ c. (search needs, search needs, shares-none _ _))
-    (λ c κs. search needs)
-    (λ c κs. search needs)
-    (search needs)
-    (search needs)
+    (λ c κs. tt)
+    (λ c κs. omega arith)
+    (λ c. omega arith)
+    (λ c. omega arith)
     more
-    (search needs)
+    (λ c. omega arith)
     (λ c. shares-all _ _ _ _ _ (c .loop-test .left) (c .before .loop .inv .2)))

@@ -1,7 +1,7 @@
 -- The sums are raised where the sender is the in party, and else are as they were.
-use Rattle.laws.specs.Kit.{needs}
+use Rattle.laws.specs.Kit.{arith}
 use Rattle.nets.specs.Sums.{boughtShare}
-use Rattle.nets.proofs.Raising.{raised-agree, raised-still}
+use Rattle.nets.proofs.Laws.Raising.{raised-agree, raised-still}
 use Rattle.nets.proofs.add_bought.Statement.{statement}
 use Rattle.nets.proofs.add_bought.Tie as tie
 
@@ -18,4 +18,4 @@ other c = raised-still _ _ _ (λ k. rw (← c .before .before .in-party .ensures
 
 pub add-bought-spec : {M : Type 1} → statement M
 add-bought-spec =
-    tie.close (tie.spec (λ c κs. search needs) (λ c κs. search needs) (λ c κs. search needs) (search needs) buyer other)
+    tie.close (tie.spec (λ c κs. tt) (λ c κs. tt) (λ c κs. omega arith) (λ c. omega arith) buyer other)

@@ -1,7 +1,7 @@
 -- The sums are raised where the block is a series of the sender, and else are as they were.
-use Rattle.laws.specs.Kit.{needs}
+use Rattle.laws.specs.Kit.{arith}
 use Rattle.nets.specs.Sums.{ownShare}
-use Rattle.nets.proofs.Raising.{raised-agree, raised-still}
+use Rattle.nets.proofs.Laws.Raising.{raised-agree, raised-still}
 use Rattle.nets.proofs.add_if_own.Statement.{statement}
 use Rattle.nets.proofs.add_if_own.Tie as tie
 
@@ -17,4 +17,4 @@ unfolding ownShare
 other c = raised-still _ _ _ (λ k. rw (← c .before .is-series-of .ensures, c .if1 .left))
 
 pub add-if-own-spec : {M : Type 1} → statement M
-add-if-own-spec = tie.close (tie.spec (λ c κs. search needs) (λ c κs. search needs) (search needs) own other)
+add-if-own-spec = tie.close (tie.spec (λ c κs. tt) (λ c κs. omega arith) (λ c. omega arith) own other)

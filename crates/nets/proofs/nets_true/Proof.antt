@@ -1,11 +1,11 @@
 -- No sender passes; a sender passes if its nets have the bytes of the sums of its own series.
-use Rattle.laws.specs.Kit.{needs, refl, told, denied}
+use Rattle.laws.specs.Kit.{arith, refl, told, denied}
 use Rattle.laws.specs.Tests.{_and_, _or_, neg, is}
 use Rattle.laws.specs.Lists.{every}
 use Rattle.paper.specs.Layout.{zeros}
 use Rattle.paper.specs.PlainRun.{netsTrue}
-use Rattle.nets.proofs.Nets.{few-cut}
-use Rattle.nets.proofs.Words.{nets-own}
+use Rattle.nets.proofs.Laws.Nets.{few-cut}
+use Rattle.nets.proofs.Laws.Words.{nets-own}
 use Rattle.nets.proofs.nets_true.Statement.{statement}
 use Rattle.nets.proofs.nets_true.Tie as tie
 
@@ -30,4 +30,4 @@ compared c =
 pub nets-true-spec : {M : Type 1} → statement M
 nets-true-spec =
     tie.close
-    (tie.spec (λ c κs. tt) no-sender (λ c κs. tt) (search needs) (λ c κs. tt) (λ c κs. search needs) (search needs) (search needs) (λ c κs. search needs) (λ c κs. tt) (search needs) (λ c κs. tt) (λ c κs. tt) compared)
+    (tie.spec (λ c κs. tt) no-sender (λ c κs. tt) (λ c. omega arith) (λ c κs. tt) (λ c κs. omega arith) (λ c. omega arith) (λ c. omega arith) (λ c κs. omega arith) (λ c κs. tt) (λ c. omega arith) (λ c κs. tt) (λ c κs. tt) compared)

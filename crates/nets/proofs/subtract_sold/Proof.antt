@@ -1,7 +1,7 @@
 -- The sums are lowered where the sender is the out party, and else are as they were.
-use Rattle.laws.specs.Kit.{needs}
+use Rattle.laws.specs.Kit.{arith}
 use Rattle.nets.specs.Sums.{soldShare}
-use Rattle.nets.proofs.Raising.{raised-agree, raised-still}
+use Rattle.nets.proofs.Laws.Raising.{raised-agree, raised-still}
 use Rattle.nets.proofs.subtract_sold.Statement.{statement}
 use Rattle.nets.proofs.subtract_sold.Tie as tie
 
@@ -18,4 +18,4 @@ other c = raised-still _ _ _ (λ k. rw (← c .before .before .out-party .ensure
 
 pub subtract-sold-spec : {M : Type 1} → statement M
 subtract-sold-spec =
-    tie.close (tie.spec (λ c κs. search needs) (λ c κs. search needs) (λ c κs. search needs) (search needs) seller other)
+    tie.close (tie.spec (λ c κs. tt) (λ c κs. tt) (λ c κs. omega arith) (λ c. omega arith) seller other)

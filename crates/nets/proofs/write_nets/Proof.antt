@@ -1,10 +1,10 @@
 -- The sums, raised from 0 by all series, are the nets, and they are what is written before the check is put right.
-use Rattle.laws.specs.Kit.{needs, refl}
+use Rattle.laws.specs.Kit.{arith, refl}
 use Rattle.laws.specs.Tests.{_and_, is}
 use Rattle.laws.specs.Lists.{every}
 use Rattle.paper.specs.Layout.{zeros}
-use Rattle.nets.proofs.Nets.{few-cut}
-use Rattle.nets.proofs.Words.{nets-written}
+use Rattle.nets.proofs.Laws.Nets.{few-cut}
+use Rattle.nets.proofs.Laws.Words.{nets-written}
 use Rattle.nets.proofs.write_nets.Statement.{statement}
 use Rattle.nets.proofs.write_nets.Tie as tie
 
@@ -20,4 +20,4 @@ returns c =
 
 pub write-nets-spec : {M : Type 1} → statement M
 write-nets-spec =
-    tie.close (tie.spec (search needs) (λ c κs. search needs) (search needs) (λ c κs. search needs) (λ c κs. tt) (search needs) returns)
+    tie.close (tie.spec (λ c. omega arith) (λ c κs. omega arith) (λ c. omega arith) (λ c κs. omega arith) (λ c κs. tt) (λ c. omega arith) returns)

@@ -1,5 +1,4 @@
 -- The code asks what the definition asks: was the rest quantity text.
-use Rattle.laws.specs.Kit.{arith}
 use Rattle.laws.specs.Tests.Laws.{is-equal, is-other}
 use Rattle.paper.specs.QuantityText.{pastMinus}
 use Rattle.quantity.proofs.past_minus.Statement.{statement}

@@ -1,5 +1,4 @@
 -- The test compares the number in bytes 508 to 511 with the check.
-use Rattle.laws.specs.Kit.{arith}
 use Rattle.laws.specs.Tests.{is}
 use Rattle.paper.specs.Check.{checkRight}
 use Rattle.block.proofs.check.check_right.Statement.{statement}

@@ -1,5 +1,4 @@
 -- 31 times the check and the byte, both modulo 4,294,967,296, are the step.
-use Rattle.laws.specs.Kit.{arith}
 use Rattle.block.proofs.Laws.Steps.{stepped}
 use Rattle.block.proofs.check.check_step.Statement.{statement}
 use Rattle.block.proofs.check.check_step.Tie as tie

@@ -1,8 +1,7 @@
 -- A lane's check so far is that of the bytes passed from its start on, and 508 is a multiple of four.
-use Rattle.laws.specs.Kit.{_≡_, refl, sym, _≤_, _+_, _-_, arith}
+use Rattle.laws.specs.Kit.{_≡_, refl, sym, _≤_, _-_, arith}
 use Prim.Native.Nat.{_%_}
 use native.Mathlib.Nat.{zero-add}
-use denote.Ref.{now}
 use Rattle.laws.specs.Tests.{_and_, is}
 use Rattle.laws.specs.Bytes.{part}
 use Rattle.paper.specs.Check.{checkFrom}

@@ -6,7 +6,7 @@ use Rattle.block.proofs.check.seal.Tie as tie
 
 returns : tie.Need-returns
 unfolding sealed
-returns c = cc
+returns c = let w = c .before .before in simp (w .write-4 .ensures, w .before .before .check-of .ensures)
 
 pub seal-spec : {M : Type 1} → statement M
 seal-spec = tie.close (tie.spec (λ c κs. tt) (λ c κs. tt) (λ c. omega arith) returns)

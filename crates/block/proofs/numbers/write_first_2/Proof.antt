@@ -6,7 +6,7 @@ use Rattle.block.proofs.numbers.write_first_2.Tie as tie
 
 returns : tie.Need-returns
 unfolding written little
-returns c = cc
+returns c = let b = c .before .before in simp (b .put-byte2 .ensures, b .before .before .before .before .put-byte .ensures)
 
 pub write-first-2-spec : {M : Type 1} → statement M
 write-first-2-spec =

@@ -6,7 +6,10 @@ use Rattle.block.proofs.numbers.write_first_4.Tie as tie
 
 returns : tie.Need-returns
 unfolding written little
-returns c = cc
+returns c = let d = c .before .before in
+    let e = d .before .before .before .before in
+    let f = e .before .before .before .before in
+    simp (d .put-byte4 .ensures, e .put-byte3 .ensures, f .put-byte2 .ensures, f .before .before .before .before .put-byte .ensures)
 
 pub write-first-4-spec : {M : Type 1} → statement M
 write-first-4-spec =

@@ -1,5 +1,5 @@
 -- The digits counted and those of what is left are the digits of the number.
-use Rattle.laws.specs.Kit.{arith, needs, _≡_, _≤_, _-_, _+_}
+use Rattle.laws.specs.Kit.{arith, _≡_, _≤_, _-_, _+_}
 use Rattle.quantity.specs.Digits.{placesBy}
 use Rattle.quantity.proofs.Laws.Printing.{places-hit, places-none, places-turn}
 use Rattle.quantity.proofs.digits.places.Statement.{statement}

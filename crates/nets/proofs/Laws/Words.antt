@@ -1,5 +1,5 @@
 -- The sums written as entries are the nets, where the sums were 0 before the series were added.
-use Rattle.laws.specs.Kit.{_≡_, refl, sym, ap, _∙_, true, List, ℕ, _+_, _≤_, _<_, arith, length, getD}
+use Rattle.laws.specs.Kit.{_≡_, refl, sym, ap, _∙_, true, List, ℕ, _≤_, _<_, arith, length, getD}
 use Prim.Native.Nat.{zero, suc, _%_}
 use native.Mathlib.Nat.{zero-add}
 use Rattle.laws.specs.Tests.{is}
@@ -15,8 +15,8 @@ use Rattle.paper.specs.Nets.{netOf, netsTo, netsOf}
 use Rattle.layout.specs.Written.{entries, withEntries}
 use Rattle.layout.proofs.Laws.{entries-length}
 use Rattle.nets.specs.Sums.{Raised, shares, share, ownShare}
-use Rattle.nets.proofs.Raising.{raised-agree}
-use Rattle.nets.proofs.Nets.{Few, few-keep, net-shares, shares-own}
+use Rattle.nets.proofs.Laws.Raising.{raised-agree}
+use Rattle.nets.proofs.Laws.Nets.{Few, few-keep, net-shares, shares-own}
 
 zero-at : (z : List ℕ) (k : ℕ) → zeros z ≡ true → getD z k 0 ≡ 0
 unfolding zeros
