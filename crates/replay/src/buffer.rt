@@ -2,9 +2,14 @@
 use block::check::check_bytes;
 use block::numbers::number_4;
 use field::part_of;
+use libc::STDOUT_FILENO;
 use stream::input;
 use stream::line;
 use stream::parts::within;
+use stream::told::Told;
+use stream::told::nothing;
+use stream::told::one;
+use stream::told::two;
 
 fn clear_from(buffer: &mut [u8], at: usize) {
     let mut i = at;
@@ -15,79 +20,59 @@ fn clear_from(buffer: &mut [u8], at: usize) {
 }
 
 // Bytes gained are zero, even where the buffer had been longer once.
-pub fn set_length(buffer: &mut [u8], old: usize, new: usize, line: &mut [u8]) {
+pub fn set_length(buffer: &mut [u8], old: usize, new: usize) -> Told {
     let k = within(new, buffer);
-    clear_from(&mut buffer[..k], old);
-    let at = line::text(line, 0, b"length");
-    let at = line::number(line, at, new as u64);
-    line::end(line, at);
-}
-
-// False where the bytes would reach past the buffer's end.
-fn fill_from(buffer: &mut [u8], from: usize, count: usize) -> bool {
-    if buffer.len() < from {
-        return false;
+    if k < new {
+        return nothing();
     }
-    input::fill(&mut buffer[from..], count)
+    clear_from(&mut buffer[..k], old);
+    one(new)
 }
 
-// The n bytes of a body, the offset first.
-pub fn set_bytes(buffer: &mut [u8], n: usize, line: &mut [u8]) -> bool {
+// The n bytes of a body: four of offset, then those that go straight into the buffer, and not past its end.
+pub fn set_bytes(buffer: &mut [u8], n: usize) -> Told {
     if n < 4 {
-        return false;
+        return nothing();
     }
     let mut offset = [0u8; 4];
     if !input::fill(&mut offset, 4) {
-        return false;
+        return nothing();
     }
     let from = number_4(&offset, 0) as usize;
-    if !fill_from(buffer, from, n - 4) {
-        return false;
+    if buffer.len() < from {
+        return nothing();
     }
-    let at = line::text(line, 0, b"bytes");
-    let at = line::number(line, at, from as u64);
-    let at = line::number(line, at, (n - 4) as u64);
-    line::end(line, at);
-    true
+    if !input::fill(&mut buffer[from..], n - 4) {
+        return nothing();
+    }
+    two(from, n - 4)
 }
 
-fn show_part(line: &mut [u8], part: &[u8]) {
-    let at = line::hex(line, 0, part);
-    line::end(line, at);
+pub fn show(line: &[u8], k: usize) {
+    io::write_all(STDOUT_FILENO, part_of(line, 0, k));
 }
 
-fn show_blocks(line: &mut [u8], buffer: &[u8]) {
-    let many = buffer.len() / 512;
+// Shows the line, which has k bytes, and makes the next of these bytes; where they are none the line stays as it is.
+fn next_line(line: &mut [u8], k: usize, part: &[u8]) -> usize {
+    if part.len() == 0 {
+        return k;
+    }
+    show(line, k);
+    line::hex_line(line, part)
+}
+
+// A line for each 512 bytes, and one for what is left. The last line is left to the caller to show, as any other record's.
+pub fn book(buffer: &[u8], line: &mut [u8]) -> usize {
+    let mut k = line::answer(line, 3, one(buffer.len()));
+    let most = buffer.len() / 512;
     let mut i = 0;
-    while i < many {
-        show_part(line, part_of(buffer, 512 * i, 512));
+    while i <= most {
+        k = next_line(line, k, part_of(buffer, 512 * i, 512));
         i += 1;
     }
+    k
 }
 
-fn show_book(buffer: &[u8], line: &mut [u8]) {
-    let at = line::text(line, 0, b"book");
-    let at = line::number(line, at, buffer.len() as u64);
-    line::end(line, at);
-    show_blocks(line, buffer);
-    let left = part_of(buffer, buffer.len() - buffer.len() % 512, 512);
-    if 0 < left.len() {
-        show_part(line, left);
-    }
-}
-
-fn show_sum(buffer: &[u8], line: &mut [u8]) {
-    let at = line::text(line, 0, b"sum");
-    let at = line::number(line, at, buffer.len() as u64);
-    let at = line::number(line, at, check_bytes(buffer) as u64);
-    line::end(line, at);
-}
-
-pub fn show(tag: u8, buffer: &[u8], line: &mut [u8]) -> bool {
-    if tag == 3 {
-        show_book(buffer, line);
-    } else {
-        show_sum(buffer, line);
-    }
-    true
+pub fn sum(buffer: &[u8]) -> Told {
+    two(buffer.len(), check_bytes(buffer) as usize)
 }

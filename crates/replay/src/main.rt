@@ -1,9 +1,11 @@
 // Replays a stream of calls on one book and answers each with a line; docs/REPLAY.md fixes both.
 mod buffer;
 
+use block::numbers::number_4;
 use libc::STDOUT_FILENO;
 use stream::input;
 use stream::input::Head;
+use stream::line;
 use stream::parts::within;
 
 // What is kept from record to record, beside the bytes of the buffer: its length.
@@ -24,43 +26,32 @@ fn malformed(length: usize) -> State {
     ended(length)
 }
 
-fn answered(well_formed: bool, length: usize) -> State {
-    if !well_formed {
+// Shows the line, which has k bytes; a record is malformed if its line has none. The buffer has this length from now on.
+fn shown(line: &[u8], k: usize, length: usize) -> State {
+    if k == 0 {
         return malformed(length);
     }
+    buffer::show(line, k);
     State {
         going: true,
         length,
     }
 }
 
-// False where the fields do not fill the body: nothing is answered or changed then.
-fn answer(tag: u8, book: &mut [u8], body: &mut [u8], line: &mut [u8]) -> bool {
-    if tag < 5 {
-        return buffer::show(tag, book, line);
+fn answer(tag: u8, book: &mut [u8], body: &mut [u8], line: &mut [u8]) -> usize {
+    match tag {
+        3 => buffer::book(book, line),
+        4 => line::answer(line, tag, buffer::sum(book)),
+        _ => replay_answers::answer(tag, book, body, line),
     }
-    if tag < 8 {
-        return book_answers::day_calls::answer(tag, book, body, line);
-    }
-    if (tag == 12) | (tag == 13) {
-        return book_answers::message_calls::answer(tag, body, line);
-    }
-    if tag < 16 {
-        return book_answers::readings::answer(tag, book, body, line);
-    }
-    leaf_answers::answer(tag, body, line)
 }
 
-fn set_length(length: usize, book: &mut [u8], body: &[u8], line: &mut [u8]) -> State {
-    let asked = block::numbers::number_4(body, 0) as usize;
-    if book.len() < asked {
-        return malformed(length);
-    }
-    buffer::set_length(book, length, asked, line);
-    answered(true, asked)
+fn set_length(old: usize, new: usize, book: &mut [u8], line: &mut [u8]) -> State {
+    let k = line::answer(line, 1, buffer::set_length(book, old, new));
+    shown(line, k, new)
 }
 
-// Records of the kind `bytes` go straight into the book: no other buffer is as long.
+// The body of `bytes` goes straight into the book: no other buffer is as long.
 fn take(
     tag: u8,
     n: usize,
@@ -69,27 +60,27 @@ fn take(
     message: &mut [u8],
     line: &mut [u8],
 ) -> State {
+    let used = within(length, book);
     if tag == 2 {
-        let used = within(length, book);
-        return answered(buffer::set_bytes(&mut book[..used], n, line), length);
+        let k = line::answer(line, tag, buffer::set_bytes(&mut book[..used], n));
+        return shown(line, k, length);
     }
     if !input::fill(message, n) {
         return malformed(length);
     }
-    let k = within(n, message);
     if tag == 1 {
-        return set_length(length, book, &message[..k], line);
+        return set_length(length, number_4(message, 0) as usize, book, line);
     }
-    let used = within(length, book);
-    let well_formed = answer(tag, &mut book[..used], &mut message[..k], line);
-    answered(well_formed, length)
+    let size = within(n, message);
+    let k = answer(tag, &mut book[..used], &mut message[..size], line);
+    shown(line, k, length)
 }
 
 fn record(
     length: usize,
     book: &mut [u8; 512512],
     message: &mut [u8; 131074],
-    line: &mut [u8; 4096],
+    line: &mut [u8; 11189],
 ) -> State {
     match input::next_head() {
         Head::Record(tag, n) => take(tag, n, length, book, message, line),
@@ -98,11 +89,12 @@ fn record(
     }
 }
 
-// The number of turns bounds the loop, since nothing says that the input ever ends.
+// No line is longer than the listing's: its word, a space, 5,590 bytes (listing_text, specs/Bound) in hex and the newline. The number of turns bounds the
+// loop, since nothing says that the input ever ends.
 fn main() {
     let mut book = [0u8; 512512];
     let mut message = [0u8; 131074];
-    let mut line = [0u8; 4096];
+    let mut line = [0u8; 11189];
     let mut s = State {
         going: true,
         length: 0,

@@ -1,95 +1,117 @@
-// A line, made in a buffer of the caller's: one write for each line, or for each bufferful of a long one. Every function takes the place
-// where the next byte goes and answers the place behind what it put.
-ghost use Prim.Native.Nat.{_<_};
-use crate::parts::within;
-use libc::STDOUT_FILENO;
+// A line, made in a buffer that the caller lends. Each function that puts a piece of it answers the place behind that piece; what would fall past the
+// buffer's end is left out.
+ghost use mathlib.Core.Path.{_≡_};
+ghost use Prim.Native.Nat.{_≤_, _<_};
+ghost use lib.ListN.{length};
+ghost use Rattle.desk_text.specs.Put.{Put};
+ghost use Rattle.stream.specs.Told.{numbersOf};
+ghost use Rattle.stream.specs.Line.{spaced, numbersText, hexDigit, hexByte, hexText, bytesText, answerLine, hexLine, wordOf, toldLine};
+use crate::told::Told;
+use crate::told::first_numbers;
+use desk_text::numbers::put_number;
+use desk_text::put::put;
+use desk_text::words::line_numbered;
 
-fn write_up_to(line: &[u8], at: usize) {
-    let k = within(at, line);
-    io::write_all(STDOUT_FILENO, &line[..k]);
+fn put_spaced(line: &mut [u8], at: usize, x: usize) -> usize
+    requires { ⌜ at ≤ length (now line) ⌝ }
+    ensures { λ r. ⌜ Put at (spaced x) r (now (line .entry)) (now (line .exit)) ⌝ }
+{
+    let behind = put(line, at, b" ");
+    put_number(line, behind, x)
 }
 
-// A full buffer is written, and the line goes on at its start.
-fn next_place(line: &[u8], at: usize) -> usize {
-    if at < line.len() {
-        return at;
-    }
-    write_up_to(line, at);
-    0
-}
-
-fn put(line: &mut [u8], at: usize, byte: u8) -> usize {
-    let place = next_place(line, at);
-    if place < line.len() {
-        line[place] = byte;
-        return place + 1;
-    }
-    place
-}
-
-pub fn text(line: &mut [u8], at: usize, s: &[u8]) -> usize {
+fn put_numbers(line: &mut [u8], at: usize, numbers: &[usize]) -> usize
+    requires { ⌜ at ≤ length (now line) ⌝ }
+    ensures { λ r. ⌜ Put at (numbersText (now (numbers .entry))) r (now (line .entry)) (now (line .exit)) ⌝ }
+{
     let mut place = at;
     let mut i = 0;
-    while i < s.len() {
-        place = put(line, place, s[i]);
+    while i < numbers.len() {
+        place = put_spaced(line, place, numbers[i]);
         i += 1;
     }
     place
 }
 
-// A space and the number.
-pub fn number(line: &mut [u8], at: usize, x: u64) -> usize {
-    let mut digits = [0u8; 20];
-    let k = io::decimal(x, &mut digits);
-    let place = put(line, at, 32);
-    text(line, place, &digits[..k])
-}
-
-pub fn yes_or_no(line: &mut [u8], at: usize, yes: bool) -> usize {
-    if yes {
-        return number(line, at, 1);
-    }
-    number(line, at, 0)
-}
-
+// 0 to 9, then a to f.
 fn hex_digit(x: u8) -> u8
     requires { ⌜ x < 16 ⌝ }
+    ensures { λ r. ⌜ r ≡ hexDigit x ⌝ }
 {
     if x < 10 { 48 + x } else { 87 + x }
 }
 
-fn put_hex(line: &mut [u8], at: usize, byte: u8) -> usize {
-    let place = put(line, at, hex_digit(byte / 16));
-    put(line, place, hex_digit(byte % 16))
+fn put_hex_byte(line: &mut [u8], at: usize, x: u8) -> usize
+    requires { ⌜ at ≤ length (now line) ⌝ }
+    ensures { λ r. ⌜ Put at (hexByte x) r (now (line .entry)) (now (line .exit)) ⌝ }
+{
+    put(line, at, &[hex_digit(x / 16), hex_digit(x % 16)])
 }
 
-pub fn hex(line: &mut [u8], at: usize, s: &[u8]) -> usize {
+fn put_hex(line: &mut [u8], at: usize, s: &[u8]) -> usize
+    requires { ⌜ at ≤ length (now line) ⌝ }
+    ensures { λ r. ⌜ Put at (hexText (now (s .entry))) r (now (line .entry)) (now (line .exit)) ⌝ }
+{
     let mut place = at;
     let mut i = 0;
     while i < s.len() {
-        place = put_hex(line, place, s[i]);
+        place = put_hex_byte(line, place, s[i]);
         i += 1;
     }
     place
 }
 
 // A space and the bytes; neither where there are none.
-pub fn bytes(line: &mut [u8], at: usize, s: &[u8]) -> usize {
+fn put_bytes(line: &mut [u8], at: usize, s: &[u8]) -> usize
+    requires { ⌜ at ≤ length (now line) ⌝ }
+    ensures { λ r. ⌜ Put at (bytesText (now (s .entry))) r (now (line .entry)) (now (line .exit)) ⌝ }
+{
     if s.len() == 0 {
         return at;
     }
-    let place = put(line, at, 32);
-    hex(line, place, s)
+    let behind = put(line, at, b" ");
+    put_hex(line, behind, s)
 }
 
-pub fn end(line: &mut [u8], at: usize) {
-    let place = put(line, at, 10);
-    write_up_to(line, place);
+// The one form that every answer has.
+fn put_answer(line: &mut [u8], word: &[u8], numbers: &[usize], bytes: &[u8]) -> usize
+    ensures { λ r. ⌜ Put 0 (answerLine (now (word .entry)) (now (numbers .entry)) (now (bytes .entry))) r (now (line .entry)) (now (line .exit)) ⌝ }
+{
+    let at = put(line, 0, word);
+    let at = put_numbers(line, at, numbers);
+    let at = put_bytes(line, at, bytes);
+    put(line, at, b"\n")
 }
 
-// The answer to a call that the library does not have yet.
-pub fn absent(line: &mut [u8], word: &[u8]) {
-    let at = text(line, 0, word);
-    let at = text(line, at, b" absent");
-    end(line, at);
+// Line k of the words is the word of tag k.
+pub fn answer_with(line: &mut [u8], tag: u8, told: Told, bytes: &[u8]) -> usize
+    ensures { λ r. ⌜ Put 0 (answerLine (wordOf tag) (numbersOf told) (now (bytes .entry))) r (now (line .entry)) (now (line .exit)) ⌝ }
+{
+    let words =
+        b"\nlength\nbytes\nbook\nsum\nopen\nclock\nsubmit\nmark\nblock\nfinal\nplain\nreader\nwalk\nlisting\nsound\neic\nid\nread\nprint\ncheck\nseal\ncode\n";
+    let numbers = told.numbers;
+    put_answer(
+        line,
+        line_numbered(words, tag as usize),
+        first_numbers(&numbers, told.count),
+        bytes,
+    )
+}
+
+// Most answers show no bytes. Nothing is put where nothing is told.
+pub fn answer(line: &mut [u8], tag: u8, told: Told) -> usize
+    ensures { λ r. ⌜ Put 0 (toldLine tag told) r (now (line .entry)) (now (line .exit)) ⌝ }
+{
+    if told.count == 0 {
+        return 0;
+    }
+    answer_with(line, tag, told, b"")
+}
+
+// A line of the book: bytes alone.
+pub fn hex_line(line: &mut [u8], s: &[u8]) -> usize
+    ensures { λ r. ⌜ Put 0 (hexLine (now (s .entry))) r (now (line .entry)) (now (line .exit)) ⌝ }
+{
+    let at = put_hex(line, 0, s);
+    put(line, at, b"\n")
 }

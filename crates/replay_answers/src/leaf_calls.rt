@@ -1,0 +1,27 @@
+// The calls that need neither a book nor a message.
+use block::check::check_of;
+use block::check::check_right;
+use block::numbers::byte_or_zero;
+use codes::reason_code;
+use eic::eic_valid;
+use field::id_well_formed;
+use quantity::quantity_read;
+use stream::told::Told;
+use stream::told::flag;
+use stream::told::one;
+use stream::told::two;
+
+fn read(text: &[u8]) -> Told {
+    let r = quantity_read(text);
+    two(r.number as usize, r.kilowatts as usize)
+}
+
+pub fn numbers(tag: u8, body: &[u8]) -> Told {
+    match tag {
+        16 => one(flag(eic_valid(body))),
+        17 => one(flag(id_well_formed(body))),
+        18 => read(body),
+        20 => two(check_of(body) as usize, flag(check_right(body))),
+        _ => one(reason_code(byte_or_zero(body, 0) as u32) as usize),
+    }
+}

@@ -1,0 +1,33 @@
+// The line that answers each call of a stream (docs/REPLAY.md). Where the fields of a record do not fill its body nothing is called and nothing told: the
+// record is malformed.
+pub mod day_calls;
+pub mod leaf_calls;
+pub mod message_calls;
+pub mod readings;
+pub mod shown;
+
+use stream::line;
+use stream::told::Told;
+
+// The numbers that a call tells, of the calls that show no bytes.
+fn numbers(tag: u8, book: &mut [u8], body: &[u8]) -> Told {
+    if tag < 8 {
+        return day_calls::numbers(tag, book, body);
+    }
+    if tag < 16 {
+        return readings::numbers(tag, book, body);
+    }
+    leaf_calls::numbers(tag, body)
+}
+
+// How many bytes of the buffer the line has; 0, which no line has, where the record is malformed.
+pub fn answer(tag: u8, book: &mut [u8], body: &mut [u8], line: &mut [u8]) -> usize {
+    match tag {
+        9 => shown::accepted_block(book, body, line),
+        12 => shown::reader(body, line),
+        14 => shown::listing(book, line),
+        19 => shown::print(body, line),
+        21 => shown::seal(body, line),
+        _ => line::answer(line, tag, numbers(tag, book, body)),
+    }
+}

@@ -1,0 +1,50 @@
+// The calls that read the book, and the walk over a message.
+use crate::message_calls::walk_told;
+use block::numbers::number_2;
+use paper::Position;
+use stream::fields::name;
+use stream::fields::name_end;
+use stream::fields::rest_from;
+use stream::told::Told;
+use stream::told::flag;
+use stream::told::four;
+use stream::told::nothing;
+use stream::told::one;
+use stream::told::two;
+
+// The names of the sender and of the series id.
+fn mark(book: &[u8], body: &[u8]) -> Told {
+    let id = name_end(body, 0);
+    if name_end(body, id) != body.len() {
+        return nothing();
+    }
+    let m = read::mark(book, name(body, 0), name(body, id));
+    four(m.number as usize, m.state as usize, m.first.0, m.partner.0)
+}
+
+// The names of the out party and of the in party, then two bytes of position.
+fn final_value(book: &[u8], body: &[u8]) -> Told {
+    let in_party = name_end(body, 0);
+    let at = name_end(body, in_party);
+    if rest_from(body, at).len() != 2 {
+        return nothing();
+    }
+    let position = Position(number_2(body, at) as usize);
+    let f = read::final_value(book, name(body, 0), name(body, in_party), position);
+    two(f.number as usize, f.kilowatts as usize)
+}
+
+fn plain_run(book: &[u8]) -> Told {
+    let p = plain_run::plain_run(book);
+    two(p.number as usize, flag(p.holds))
+}
+
+pub fn numbers(tag: u8, book: &[u8], body: &[u8]) -> Told {
+    match tag {
+        8 => mark(book, body),
+        10 => final_value(book, body),
+        11 => plain_run(book),
+        13 => walk_told(body),
+        _ => one(flag(sound::sound(book))),
+    }
+}
