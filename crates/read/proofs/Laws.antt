@@ -1,6 +1,5 @@
 -- What the proofs of the readings rest on.
 pub mod Found
-pub mod Used
 pub mod Marks
 pub mod Joined
 pub mod Held

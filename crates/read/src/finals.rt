@@ -1,18 +1,16 @@
 // The final value of (out party, in party, position), from the day block and the used slots of a sound book.
 ghost use mathlib.Core.Path.{_≡_};
 ghost use mathlib.Core.List.{_++_};
-ghost use Prim.Native.Nat.{_<_, _≤_};
+ghost use Prim.Native.Nat.{_<_};
 ghost use Rattle.laws.specs.Lists.{same, place};
 ghost use Rattle.laws.specs.Cut.{cut};
 ghost use Rattle.paper.specs.Layout.{quantities, entry};
 ghost use Rattle.paper.specs.Book.{numbered, slotOf, isSeriesOfPair};
-ghost use Rattle.paper.specs.Rules.{isOpen, closed};
 ghost use Rattle.paper.specs.Finals.{finalOf, finalRefused, finalIn};
 ghost use Rattle.read.specs.Held.{finalHeld};
 use block::numbers::number_4;
 use field::same;
-use layout::clock;
-use layout::lead;
+use forms::day::closed;
 use layout::n_of;
 use layout::pair;
 use layout::quantities;
@@ -23,21 +21,6 @@ use slots::block_at;
 use slots::is_series_of;
 use slots::numbered;
 use slots::slot_of;
-
-// "Position p is open exactly when clock + lead ≤ 15 × (p − 1)."
-pub fn is_open(d: &[u8], position: Position) -> bool
-    requires { ⌜ (1 ≤ position .0) × (position .0 ≤ 255) ⌝ }
-    ensures { λ r. ⌜ r ≡ isOpen (now (d .entry)) (position .0) ⌝ }
-{
-    clock(d).0 as usize + lead(d) as usize <= 15 * (position.0 - 1) + 10080
-}
-
-pub fn closed(d: &[u8], position: Position) -> bool
-    requires { ⌜ (1 ≤ position .0) × (position .0 ≤ 255) ⌝ }
-    ensures { λ r. ⌜ r ≡ closed (now (d .entry)) (position .0) ⌝ }
-{
-    !is_open(d, position)
-}
 
 // The field against two lists joined, of whatever lengths.
 fn same_joined(s: &[u8], a: &[u8], b: &[u8]) -> bool
@@ -64,9 +47,9 @@ fn held(us: &[u8], party: &[u8], seller: &[u8], buyer: &[u8]) -> Slot
     ensures { λ r. ⌜ r .0 ≡ place (isSeriesOfPair (slotOf (cut 512 (now (us .entry))) (now (party .entry))) (now (buyer .entry) ++ now (seller .entry))) (cut 512 (now (us .entry))) ⌝ }
 {
     let slot = slot_of(us, party);
-    let many = us.len() / 512;
+    let blocks = us.len() / 512;
     let mut i = 0;
-    while i < many {
+    while i < blocks {
         if is_series_of_pair(block_at(us, i), slot, seller, buyer) {
             return Slot(i + 1);
         }

@@ -4,7 +4,7 @@ ghost use Rattle.laws.specs.Tests.{_and_};
 ghost use Rattle.laws.specs.Lists.{place};
 ghost use Rattle.laws.specs.Cut.{cut};
 ghost use Rattle.paper.specs.Layout.{state, first, partner};
-ghost use Rattle.paper.specs.Book.{used, isSeriesOf, idIs};
+ghost use Rattle.paper.specs.Book.{isSeriesOf, idIs};
 ghost use Rattle.paper.specs.Readings.{isStoredAs, storedAs, markAnswerOf, markFound, markAnswer, acceptedBlock};
 ghost use Rattle.paper.specs.Finals.{final};
 
@@ -26,19 +26,8 @@ use slots::block_at;
 use slots::is_series_of;
 use slots::numbered;
 use slots::slot_of;
-use slots::used_count;
+use slots::used_part;
 use sound::sound;
-
-// The used slots, a part of the lent book.
-pub fn used(book: &[u8]) -> &[u8]
-    ensures { λ r. ⌜ cut 512 (now r) ≡ used (now (book .entry)) ⌝ }
-{
-    if book.len() < 512 {
-        return &book[..0];
-    }
-    let slots = &book[512..];
-    &slots[..512 * used_count(slots)]
-}
 
 // The id is compared only where the sender's slot agrees.
 fn is_series_with_id(b: &[u8], slot: Slot, id: &[u8]) -> bool
@@ -55,9 +44,9 @@ pub fn stored_as(us: &[u8], sender: &[u8], id: &[u8]) -> Slot
     ensures { λ r. ⌜ r .0 ≡ place (isStoredAs (cut 512 (now (us .entry))) (now (sender .entry)) (now (id .entry))) (cut 512 (now (us .entry))) ⌝ }
 {
     let slot = slot_of(us, sender);
-    let many = us.len() / 512;
+    let blocks = us.len() / 512;
     let mut i = 0;
-    while i < many {
+    while i < blocks {
         if is_series_with_id(block_at(us, i), slot, id) {
             return Slot(i + 1);
         }
@@ -104,7 +93,7 @@ pub fn mark(book: &[u8], sender: &[u8], id: &[u8]) -> MarkAnswer
     if !sound(book) {
         return mark_refused(1);
     }
-    mark_in(used(book), sender, id)
+    mark_in(used_part(book), sender, id)
 }
 
 // The block where it stands in the lent book; a refusal is an empty part.
@@ -114,7 +103,7 @@ pub fn accepted_block<'a>(book: &'a [u8], sender: &[u8], id: &[u8]) -> &'a [u8]
     if !sound(book) {
         return &book[..0];
     }
-    let us = used(book);
+    let us = used_part(book);
     numbered(us, stored_as(us, sender, id))
 }
 
@@ -125,5 +114,11 @@ pub fn final_value(book: &[u8], seller: &[u8], buyer: &[u8], position: Position)
     if !sound(book) {
         return final_refused(1);
     }
-    final_in(part_of(book, 0, 512), used(book), seller, buyer, position)
+    final_in(
+        part_of(book, 0, 512),
+        used_part(book),
+        seller,
+        buyer,
+        position,
+    )
 }

@@ -12,7 +12,7 @@ past c =
     let place = c .before in
     let us = place .before in
     let ok = us .before in
-    block-sound _ _ _ (told (ok .before .sound .ensures) (ok .if1 .left)) _ (us .used .ensures) (place .stored-as .ensures) (c .numbered .ensures)
+    block-sound _ _ _ (told (ok .before .sound .ensures) (ok .if1 .left)) _ (us .used-part .ensures .0) (place .stored-as .ensures) (c .numbered .ensures)
 
 pub accepted-block-spec : {M : Type 1} → statement M
 accepted-block-spec = tie.close (tie.spec (λ c κs. search needs) (λ c. search needs) unsound (λ c κs. search needs) (λ c κs. search needs) (λ c κs. search needs) past)

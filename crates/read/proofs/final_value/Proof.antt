@@ -12,7 +12,7 @@ past c =
     let us = c .before in
     let day = us .before in
     let ok = day .before in
-    final-sound _ _ _ _ (told (ok .before .sound .ensures) (ok .if1 .left)) (day .part-of .ensures) (us .used .ensures) (c .final-in .ensures)
+    final-sound _ _ _ _ (told (ok .before .sound .ensures) (ok .if1 .left)) (day .part-of .ensures) (us .used-part .ensures .0) (c .final-in .ensures)
 
 pub final-value-spec : {M : Type 1} → statement M
 final-value-spec = tie.close (tie.spec (λ c κs. search needs) (λ c κs. search needs) unsound (λ c κs. search needs) (λ c κs. search needs) (λ c κs. search needs) past)

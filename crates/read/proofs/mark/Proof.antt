@@ -10,7 +10,7 @@ unsound c = c .mark-refused .ensures ∙ mark-unsound _ _ _ (denied (c .before .
 past : tie.Need-returns-2
 past c =
     let ok = c .before .before in
-    mark-sound _ _ _ (told (ok .before .sound .ensures) (ok .if1 .left)) (c .before .used .ensures) (c .mark-in .ensures)
+    mark-sound _ _ _ (told (ok .before .sound .ensures) (ok .if1 .left)) (c .before .used-part .ensures .0) (c .mark-in .ensures)
 
 pub mark-spec : {M : Type 1} → statement M
 mark-spec = tie.close (tie.spec (λ c κs. search needs) (λ c κs. search needs) unsound (λ c κs. search needs) (λ c κs. search needs) past)
