@@ -23,10 +23,10 @@ use layout::senders_slot;
 use layout::state;
 use paper::Slot;
 use quantity::decimal;
-use read::used;
 use slots::block_at;
 use slots::is_series;
 use slots::numbered;
+use slots::used_part;
 use sound::sound;
 
 fn put_byte(x: u8, at: usize, out: &mut [u8])
@@ -191,5 +191,5 @@ pub fn listing(book: &[u8], out: &mut [u8]) -> usize
     if !sound(book) {
         return put_if_room(b"not sound\n", out);
     }
-    put_listing_if_room(used(book), out)
+    put_listing_if_room(used_part(book), out)
 }

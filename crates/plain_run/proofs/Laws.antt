@@ -1,4 +1,4 @@
--- What a sound book says of its length and of n, and its used slots as a part of its bytes.
+-- What a sound book says of its length and of n, and the answer from what is found.
 use Rattle.laws.specs.Kit.{_≡_, ap, _∙_, Bool, true, false, _&&_, [], ℕ, _-_, _*_, _/_, _≤_, _<_, arith, length, take, drop}
 use lib.ListN.{drop-of-length-le}
 use Rattle.laws.specs.Tests.{_and_}
@@ -22,21 +22,6 @@ module _ (book : Bytes) (e : sound book ≡ true) where
 
   pub sound-n : nOf (dayBlock book) ≤ 100
   sound-n = day-n (dayBlock book) (sound-says book e .day)
-
--- ---- the used slots
-
-pub used-none : (book : Bytes) → length book < 512 → cut 512 [] ≡ used book
-unfolding used slots until
-used-none book h = let n : length book ≤ 512 = omega arith in rw (drop-of-length-le book n, cut-short {A = ℕ} 512 [] (omega arith))
-
-pub used-part : (book : Bytes) (u : ℕ) → u ≡ length (until isFree (cut 512 (take (length book - 512) (drop 512 book))))
-    → cut 512 (take (512 * u) (take (length book - 512) (drop 512 book))) ≡ used book
-unfolding used slots
-used-part book u e =
-    let s : Bytes = drop 512 book in
-    let q : u ≡ length (until isFree (cut 512 s)) = e ∙ ap (λ b. length (until isFree (cut 512 b))) (rest-slice 512 book) in
-    let h : u ≤ length s / 512 = omega (arith, until-length isFree (cut 512 s), cut-length 512 s) in
-    ap (λ b. cut 512 (take (512 * u) b)) (rest-slice 512 book) ∙ take-cut 512 s u h ∙ until-take isFree (cut 512 s) u q
 
 -- ---- the answer
 

@@ -18,19 +18,8 @@ use marks::mark_true;
 use nets::nets_true;
 use paper::PlainRunAnswer;
 use slots::block_at;
-use slots::used_count;
+use slots::used_part;
 use sound::sound;
-
-// The blocks in the used slots, of a book of any length.
-fn used_slots(book: &[u8]) -> &[u8]
-    ensures { λ r. ⌜ (cut 512 (now r) ≡ used (now (book .entry))) × (length (now r) ≤ length (now (book .entry)) - 512) ⌝ }
-{
-    if book.len() < 512 {
-        return &book[..0];
-    }
-    let slots = &book[512..];
-    &slots[..512 * used_count(slots)]
-}
 
 // Goes on past a false mark: in a book that only the desk's calls have written there is none.
 fn every_mark_true(n: usize, us: &[u8], heads: &[u16; 1024], nexts: &[u16; 1000]) -> bool
@@ -84,7 +73,7 @@ pub fn plain_run(book: &[u8]) -> PlainRunAnswer
         };
     }
     let n = n_of(part_of(book, 0, 512)) as usize;
-    let us = used_slots(book);
+    let us = used_part(book);
     PlainRunAnswer {
         number: 0,
         holds: marks_true(n, us) & every_net_true(us),

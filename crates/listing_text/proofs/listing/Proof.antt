@@ -19,14 +19,14 @@ returns-2 c =
     rw (← listing-unsound _ (t .before .before .if1 .left) (denied (t .before .sound .ensures) (t .if2 .taken))) (p .put-if-room2 .ensures)
 
 put-listing-if-room-requires : tie.Need-put-listing-if-room-requires
-put-listing-if-room-requires c κs = let u = c .before in used-few _ (u .before .before .before .if1 .left) _ (u .used .ensures)
+put-listing-if-room-requires c κs = let u = c .before in used-few _ (u .before .before .before .if1 .left) _ (u .used-part .ensures .0)
 
 returns-3 : tie.Need-returns-3
 returns-3 c =
     let p = c .before .before in
     let u = p .before .before in
     let e = u .before in
-    rw (← listing-sound _ (e .before .before .if1 .left) (told (e .before .sound .ensures) (e .if2 .left)) (u .used .ensures)) (p .put-listing-if-room .ensures)
+    rw (← listing-sound _ (e .before .before .if1 .left) (told (e .before .sound .ensures) (e .if2 .left)) (u .used-part .ensures .0)) (p .put-listing-if-room .ensures)
 
 pub listing-spec : {M : Type 1} → statement M
 listing-spec =

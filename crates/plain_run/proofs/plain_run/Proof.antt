@@ -10,13 +10,13 @@ marks-requires c κs =
     let n = u .before in
     let s = n .before .before .before in
     let t = told (s .sound .ensures) (n .before .before .if1 .left) in
-    (omega (arith, n-day _ _ _ (n .n-of .ensures) (n .before .part-of .ensures), sound-n _ t), omega (arith, u .used-slots .ensures .1, sound-length _ t))
+    (omega (arith, n-day _ _ _ (n .n-of .ensures) (n .before .part-of .ensures), sound-n _ t), omega (arith, u .used-part .ensures .1, sound-length _ t))
 
 nets-requires : tie.Need-every-net-true-requires
 nets-requires c κs =
     let u = c .before in
     let i = u .before .before .before in
-    omega (arith, u .used-slots .ensures .1, sound-length _ (told (i .before .sound .ensures) (i .if1 .left)))
+    omega (arith, u .used-part .ensures .1, sound-length _ (told (i .before .sound .ensures) (i .if1 .left)))
 
 answer : tie.Need-returns-2
 answer c =
@@ -24,7 +24,7 @@ answer c =
     let u = m .before in
     let n = u .before in
     let i = n .before .before in
-    found _ _ _ _ _ (told (i .before .sound .ensures) (i .if1 .left)) (n-day _ _ _ (n .n-of .ensures) (n .before .part-of .ensures)) (u .used-slots .ensures .0) (m .marks-true .ensures) (c .every-net-true .ensures)
+    found _ _ _ _ _ (told (i .before .sound .ensures) (i .if1 .left)) (n-day _ _ _ (n .n-of .ensures) (n .before .part-of .ensures)) (u .used-part .ensures .0) (m .marks-true .ensures) (c .every-net-true .ensures)
 
 pub plain-run-spec : {M : Type 1} → statement M
 plain-run-spec =

@@ -12,7 +12,7 @@ found c =
     let place = c .before in
     let us = place .before in
     let ok = us .before in
-    accepted-sound _ _ _ (told (ok .before .sound .ensures) (ok .if1 .left)) (us .used .ensures) (place .stored-as .ensures) (c .part-numbered .ensures)
+    accepted-sound _ _ _ (told (ok .before .sound .ensures) (ok .if1 .left)) (us .used-part .ensures .0) (place .stored-as .ensures) (c .part-numbered .ensures)
 
 pub tetherbay-accepted-block-spec : {M : Type 1} → statement M
 tetherbay-accepted-block-spec =
