@@ -20,7 +20,6 @@ use remarking::remark_all;
 use renewal::renew_all;
 
 pub mod adding;
-pub mod fields;
 pub mod remarking;
 pub mod renewal;
 

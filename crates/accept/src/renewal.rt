@@ -9,11 +9,10 @@ ghost use Rattle.paper.specs.Layout.{pair, withSendersSlot};
 ghost use Rattle.paper.specs.Book.{pairIs};
 ghost use Rattle.paper.specs.Acceptance.{senderKept, renewed};
 ghost use Rattle.accept.specs.Steps.{Numbers};
-use super::fields::write_bytes;
-use super::fields::write_senders_slot;
-use block::check::seal;
+use block::numbers::write_bytes;
 use index::wide;
 use layout::sender;
+use layout::write::write_senders_slot;
 use nets::write_nets;
 use paper::Slot;
 use slots::block_at;
@@ -36,7 +35,6 @@ pub fn write_sender(block: &mut [u8], head: &[u8], series: &[u8])
 {
     write_bytes(block, 0, head);
     write_nets(block, sender(head), series);
-    seal(block);
 }
 
 // One used block, of which most are another sender's and stay. `number` is that of the message's series with its pair, 0 where there is none.
