@@ -1,7 +1,7 @@
 -- The code is the definition.
 use Rattle.laws.specs.Kit.{arith}
 use Rattle.paper.specs.Rules.{closedVerdict}
-use Rattle.judge.proofs.Laws.{broken-by}
+use Rattle.judge.proofs.Laws.Order.{broken-by}
 use Rattle.judge.proofs.positions.closed_at.Statement.{statement}
 use Rattle.judge.proofs.positions.closed_at.Tie as tie
 

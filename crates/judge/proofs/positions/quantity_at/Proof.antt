@@ -1,7 +1,7 @@
 -- The three rules are joined as the definition joins them.
 use Rattle.laws.specs.Kit.{arith}
 use Rattle.paper.specs.Rules.{quantityVerdict}
-use Rattle.judge.proofs.Laws.{broken-by, then-two}
+use Rattle.judge.proofs.Laws.Order.{broken-by, then-two}
 use Rattle.judge.proofs.positions.quantity_at.Statement.{statement}
 use Rattle.judge.proofs.positions.quantity_at.Tie as tie
 
