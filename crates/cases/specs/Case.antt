@@ -6,10 +6,11 @@ use Prim.Native.Nat.{ℕ}
 use Rattle.laws.specs.Lists.{same}
 use Rattle.paper.specs.declared.Verdict.{Verdict}
 use Rattle.paper.specs.declared.MarkAnswer.{MarkAnswer}
+use Rattle.paper.specs.declared.FinalAnswer.{FinalAnswer}
 use Rattle.paper.specs.Layout.{Bytes}
 use Rattle.paper.specs.Eic.{eicSum, eicValid}
 use Rattle.paper.specs.Rules.{verdict}
-use Rattle.paper.specs.Codes.{reasonCode}
+use Rattle.paper.specs.Finals.{final}
 use Rattle.paper.specs.Readings.{markAnswer}
 use Rattle.paper.specs.QuantityText.{quantityRead}
 use Rattle.paper.specs.Listing.{text}
@@ -59,6 +60,13 @@ toldByMark a = a .number ∷ a .state ∷ a .first .0 ∷ a .partner .0 ∷ []
 
 abbrev pub markOf : (book sender id : Bytes) → List ℕ
 markOf book sender id = toldByMark (markAnswer book sender id)
+
+-- number and kilowatts
+abbrev pub toldByFinal : FinalAnswer → List ℕ
+toldByFinal a = a .number ∷ a .kilowatts ∷ []
+
+abbrev pub finalValue : (book outParty inParty : Bytes) (position : ℕ) → List ℕ
+finalValue book outParty inParty position = toldByFinal (final book outParty inParty position)
 
 -- ---- what it should be
 

@@ -1,7 +1,7 @@
 -- The parties, blocks, messages and books of the cases, built by name. The builders say the layout's table once more, apart from its readers.
 use Prim.Native.String.{String}
 use mathlib.Core.Bool.{cond}
-use mathlib.Core.List.{List, [], _∷_, _++_}
+use mathlib.Core.List.{[], _∷_, _++_}
 use Prim.Native.Nat.{ℕ, zero, suc, _+_, _-_, _*_}
 use lib.ListN.{length, replicate}
 use Rattle.laws.specs.Tests.{is, upto}

@@ -1,5 +1,4 @@
 -- The cases of document 01 marked P, as one statement over their list.
-use Prim.Native.String.{String}
 use mathlib.Core.Path.{_≡_, refl}
 use mathlib.Core.List.{List, [], _∷_}
 use Prim.Native.Nat.{ℕ}

@@ -4,19 +4,17 @@ use mathlib.Core.List.{List, [], _∷_, _++_, map}
 use Prim.Native.Nat.{ℕ}
 use lib.ListN.{take, drop, replicate}
 use Rattle.paper.specs.declared.ClockAnswer.{ClockAnswer}
-use Rattle.paper.specs.declared.FinalAnswer.{FinalAnswer}
 use Rattle.paper.specs.Layout.{Bytes}
 use Rattle.paper.specs.Message.{seriesNumbered}
 use Rattle.paper.specs.Codes.{reasonCode, statusCode, Reply, acknowledgement, uninterpretableMessage, deskNotice, replyTo}
 use Rattle.paper.specs.Marks.{stateCode}
-use Rattle.paper.specs.Finals.{final}
 use Rattle.paper.specs.Opening.{openNumber, opened}
 use Rattle.paper.specs.Clock.{clockAnswer, clockMoved}
 use Rattle.paper.specs.Readings.{acceptedBlock}
 use Rattle.paper.specs.Listing.{text, header, listing}
-use Rattle.cases.specs.Case.{Case, _gives_, wrong, once, reads, markOf, kilowatts, refused}
+use Rattle.cases.specs.Case.{Case, _gives_, wrong, once, reads, markOf, finalValue, kilowatts, refused}
 use Rattle.cases.specs.Opened.{paper}
-use Rattle.cases.specs.Examples.{area, receiver, seller, buyer, stranger, nobody, day, id, head, steady, sale, purchase, parameters, bookOf, minute, late, after, sold, bought, examples}
+use Rattle.cases.specs.Examples.{area, receiver, seller, buyer, stranger, nobody, day, id, head, steady, sale, purchase, parameters, bookOf, minute, late, after, examples}
 use Rattle.cases.specs.Proved.{prints}
 
 -- ---- quantity text
@@ -125,13 +123,6 @@ clocks = refl
 
 -- ---- mark, block, final
 
-abbrev pub toldByFinal : FinalAnswer → List ℕ
-toldByFinal a = a .number ∷ a .kilowatts ∷ []
-
--- number and kilowatts
-abbrev pub finalValue : Bytes → Bytes → Bytes → ℕ → List ℕ
-finalValue book outParty inParty position = toldByFinal (final book outParty inParty position)
-
 -- the seller alone has filed; positions 1 to 4 are closed
 unfoldable pub ofSeller : Bytes → List Case
 ofSeller book =
@@ -151,20 +142,13 @@ ofSeller book =
     ∷ finalValue book buyer seller 4 gives refused 26
     ∷ []
 
-pub readings : wrong (once ofSeller (late (sold 2))) ≡ []
-unfolding paper examples ofSeller
-readings = refl
+-- a missing seller's series counts 0
+unfoldable pub ofBuyer : Bytes → List Case
+ofBuyer book = finalValue book seller buyer 2 gives kilowatts 0 ∷ []
 
--- the seller's quantity where the buyer has 44,000; a missing seller's series counting 0
-unfoldable pub ofSides : List Case
-ofSides =
-    once (λ book. finalValue book seller buyer 2) (late (bought 4)) gives kilowatts 45000
-    ∷ once (λ book. finalValue book seller buyer 2) (late (after (bookOf 2) (head buyer 1 1 ++ purchase 1 (steady 45000)))) gives kilowatts 0
-    ∷ []
-
-pub sides : wrong ofSides ≡ []
-unfolding paper examples ofSides
-sides = refl
+pub buyers : wrong (once ofBuyer (late (after (bookOf 2) (head buyer 1 1 ++ purchase 1 (steady 45000))))) ≡ []
+unfolding paper examples ofBuyer
+buyers = refl
 
 -- ---- the walk over a message, and the listing's other texts
 
@@ -182,9 +166,10 @@ walk = refl
 
 unfoldable pub ofListing : List Case
 ofListing =
+    once listing (bookOf 1) gives header
     -- 64 blocks, and a byte more
-    once listing (bookOf 63) gives header
-    ∷ listing (replicate 32769 0) gives text "too long\n"
+    ∷ listing (replicate 32768 1) gives text "not sound\n"
+    ∷ listing (replicate 32769 1) gives text "too long\n"
     ∷ listing (replicate 1024 0) gives text "not sound\n"
     ∷ listing [] gives text "not sound\n"
     ∷ []

@@ -71,10 +71,6 @@ ofLastVersion book =
     ∷ once (λ b. submission b (head seller 1000 1 ++ sale 1 (steady 45000))) (storedVersion 999 book) gives broken 6 0 0 51
     ∷ []
 
-pub lastVersion : wrong (once ofLastVersion (sold 2)) ≡ []
-unfolding paper examples storedVersion ofLastVersion
-lastVersion = refl
-
 -- ---- a new series, positions 1 to 4 closed
 
 unfoldable pub ofNewSeries : Bytes → List Case

@@ -2,3 +2,4 @@
 pub mod Edges
 pub mod Refusals
 pub mod Calls
+pub mod Filed

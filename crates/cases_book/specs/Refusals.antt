@@ -1,14 +1,13 @@
 -- Each number of the table of rules, with its series number, position and code; and the order of the rules. Each message differs from a right one in what its line says.
 use mathlib.Core.Path.{_≡_, refl}
 use mathlib.Core.List.{List, [], _∷_, _++_}
-use Prim.Native.Nat.{ℕ}
 use lib.ListN.{take, replicate}
 use Rattle.laws.specs.Bytes.{written}
 use Rattle.paper.specs.Layout.{Bytes, Block}
 use Rattle.paper.specs.Listing.{text}
 use Rattle.cases.specs.Case.{Case, _gives_, wrong, once, submission, broken, acceptance}
 use Rattle.cases.specs.Opened.{paper}
-use Rattle.cases.specs.Examples.{area, seller, buyer, stranger, nobody, id, head, steady, butAt, series, sale, purchase, buyback, over, withN, withVersion, withId, withReceiver, withDay, withBusinessType, withContractType, withInArea, withOutArea, withAgreement, bookOf, late, after, sold, examples}
+use Rattle.cases.specs.Examples.{area, seller, buyer, stranger, nobody, id, head, steady, butAt, series, sale, purchase, buyback, over, withN, withId, withReceiver, withDay, withBusinessType, withContractType, withInArea, withOutArea, withAgreement, bookOf, late, after, examples}
 
 -- ---- a new sender and its one series, 0 throughout
 
@@ -125,7 +124,3 @@ forms = refl
 pub values : wrong (once ofValues (late (bookOf 1))) ≡ []
 unfolding paper examples firstBlock quiet ofValues
 values = refl
-
-pub knownSenders : wrong (once ofKnown (late (sold 2))) ≡ []
-unfolding paper examples ofKnown
-knownSenders = refl
