@@ -18,11 +18,6 @@ returns-2 c =
     refused-book 1 (c .refused2 .ensures)
     (malformed _ _ (told (r .before .before .sound .ensures) (r .before .if1 .left)) (sym (r .rule-2 .ensures) ∙ c .before .if2 .taken) (c .refused2 .ensures))
 
-day-block : tie.Need-sub-t18
-day-block c =
-    let r = c .before .before .before .before .before .before .before in
-    omega (arith, sound-says _ (told (r .before .before .sound .ensures) (r .before .if1 .left)) .least)
-
 judge-from-requires : tie.Need-judge-from-requires
 judge-from-requires c κs =
     let k = c .before .before .before .before in
@@ -67,8 +62,10 @@ judge-book-spec =
     (λ c κs. tt)
     (λ c κs. tt)
     (λ c κs. tt)
-    day-block
-    (λ c. omega arith)
+    (λ c.
+    let r = c .before .before .before .before .before .before in
+    omega (arith, sound-says _ (told (r .before .before .sound .ensures) (r .before .if1 .left)) .least))
+    (λ c. let u = c .before .before .before in omega (arith, u .used-part .ensures .1))
     (λ c κs. tt)
     judge-from-requires
     returns-3)
