@@ -1,6 +1,6 @@
 // The quantities of a series block and the nets of a sender block: a hundred entries of four bytes.
 ghost use mathlib.Core.Path.{_≡_};
-ghost use Prim.Native.Nat.{_+_, _*_, _<_, _≤_};
+ghost use Prim.Native.Nat.{_≤_};
 ghost use lib.ListN.{length};
 ghost use Rattle.laws.specs.Tests.{below};
 ghost use Rattle.paper.specs.Layout.{quantity};
@@ -11,6 +11,7 @@ use super::ranges::quantity_allowed;
 use field::all_zero;
 use layout::above_n;
 use layout::quantity;
+use layout::whole_quantity;
 
 // A net where `net` says so, else a quantity.
 fn entry_allowed(net: bool, entry: u32) -> bool
@@ -36,20 +37,6 @@ fn short_allowed(net: bool, n: usize, b: &[u8]) -> bool
     ok
 }
 
-fn four_bytes(w: u8, x: u8, y: u8, z: u8) -> u32
-    ensures { λ r. ⌜ r ≡ w + 256 * x + 65536 * y + 16777216 * z ⌝ }
-{
-    w as u32 + 256 * (x as u32) + 65536 * (y as u32) + 16777216 * (z as u32)
-}
-
-fn whole_entry(b: &[u8], k: usize) -> u32
-    requires { ⌜ (k < 100) × (508 ≤ length (now b)) ⌝ }
-    ensures { λ r. ⌜ r ≡ quantity (now (b .entry)) k ⌝ }
-{
-    let at = 108 + 4 * k;
-    four_bytes(b[at], b[at + 1], b[at + 2], b[at + 3])
-}
-
 // Of a block with all its entries: no entry asks for the block's length, and so several go in one step of the machine.
 fn whole_allowed(net: bool, n: usize, b: &[u8]) -> bool
     requires { ⌜ (n ≤ 100) × (508 ≤ length (now b)) ⌝ }
@@ -58,7 +45,7 @@ fn whole_allowed(net: bool, n: usize, b: &[u8]) -> bool
     let mut ok = true;
     let mut k = 0;
     while k < n {
-        ok = ok & entry_allowed(net, whole_entry(b, k));
+        ok = ok & entry_allowed(net, whole_quantity(b, k));
         k += 1;
     }
     ok

@@ -69,8 +69,9 @@ fn series_codes(table: &[u8; 256], d: &[u8], x: &[u8]) -> bool
     requires { ⌜ IsTable (now table) ⌝ }
     ensures { λ r. ⌜ r ≡ seriesCodes (now (d .entry)) (now (x .entry)) ⌝ }
 {
-    same(in_area(x), area(d))
-        & same(out_area(x), area(d))
+    let own = area(d);
+    same(in_area(x), own)
+        & same(out_area(x), own)
         & eic_valid_with(table, in_party(x))
         & eic_valid_with(table, out_party(x))
         & all_zero(agreement(x))

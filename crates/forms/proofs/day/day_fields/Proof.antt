@@ -7,7 +7,18 @@ use Rattle.forms.proofs.day.day_fields.Tie as tie
 
 returns : tie.Need-returns
 unfolding dayFields _and_ is
-returns c = simp (c .day-well-formed .ensures, c .before .day-of-book .ensures, c .before .before .clock-allowed .ensures, c .before .before .before .clock .ensures, c .before .before .before .before .lead-allowed .ensures, c .before .before .before .before .before .lead .ensures, c .before .before .before .before .before .before .n-allowed .ensures, c .before .before .before .before .before .before .before .n-of .ensures, c .before .before .before .before .before .before .before .before .kind .ensures)
+returns c =
+    simp (
+      c .day-well-formed .ensures,
+      c .before .day-of-book .ensures,
+      c .before .before .clock-allowed .ensures,
+      c .before .before .before .clock .ensures,
+      c .before .before .before .before .lead-allowed .ensures,
+      c .before .before .before .before .before .lead .ensures,
+      c .before .before .before .before .before .before .n-allowed .ensures,
+      c .before .before .before .before .before .before .before .n-of .ensures,
+      c .before .before .before .before .before .before .before .before .kind .ensures,
+    )
 
 pub day-fields-spec : {M : Type 1} → statement M
 day-fields-spec =

@@ -7,7 +7,15 @@ use Rattle.forms.proofs.day.day_sound.Tie as tie
 
 returns : tie.Need-returns
 unfolding daySound _and_
-returns c = simp (c .day-zeros .ensures, c .before .eic-valid-with2 .ensures, c .before .before .receiver .ensures, c .before .before .before .eic-valid-with .ensures, c .before .before .before .before .area .ensures, c .before .before .before .before .before .day-fields .ensures)
+returns c =
+    simp (
+      c .day-zeros .ensures,
+      c .before .eic-valid-with2 .ensures,
+      c .before .before .receiver .ensures,
+      c .before .before .before .eic-valid-with .ensures,
+      c .before .before .before .before .area .ensures,
+      c .before .before .before .before .before .day-fields .ensures,
+    )
 
 pub day-sound-spec : {M : Type 1} → statement M
 day-sound-spec =

@@ -7,7 +7,17 @@ use Rattle.forms.proofs.sender.sender_day.Tie as tie
 
 returns : tie.Need-returns
 unfolding senderDayAndNets _and_
-returns c = simp (c .nets-allowed .ensures, c .before .n-of .ensures, c .before .before .same2 .ensures, c .before .before .before .day-of-book .ensures, c .before .before .before .before .day-of-message .ensures, c .before .before .before .before .before .same .ensures, c .before .before .before .before .before .before .receiver2 .ensures, c .before .before .before .before .before .before .before .receiver .ensures)
+returns c =
+    simp (
+      c .nets-allowed .ensures,
+      c .before .n-of .ensures,
+      c .before .before .same2 .ensures,
+      c .before .before .before .day-of-book .ensures,
+      c .before .before .before .before .day-of-message .ensures,
+      c .before .before .before .before .before .same .ensures,
+      c .before .before .before .before .before .before .receiver2 .ensures,
+      c .before .before .before .before .before .before .before .receiver .ensures,
+    )
 
 pub sender-day-spec : {M : Type 1} → statement M
 sender-day-spec =

@@ -1,5 +1,5 @@
 -- The tests are the definition's.
-use Rattle.laws.specs.Kit.{needs}
+use Rattle.laws.specs.Kit.{needs, refl}
 use Rattle.laws.specs.Tests.{_and_}
 use Rattle.paper.specs.Sound.{ownerSound}
 use Rattle.forms.proofs.series.owner_sound.Statement.{statement}
@@ -7,7 +7,9 @@ use Rattle.forms.proofs.series.owner_sound.Tie as tie
 
 returns : tie.Need-returns
 unfolding ownerSound _and_
-returns c = cc
+returns c =
+    let owner = c .before .before .before .before in
+    simp (c .parties-of .ensures, c .before .pair .ensures, c .before .before .sender .ensures, c .before .before .before .is-sender .ensures, owner .numbered .ensures, owner .before .senders-slot .ensures) refl
 
 pub owner-sound-spec : {M : Type 1} → statement M
 owner-sound-spec =

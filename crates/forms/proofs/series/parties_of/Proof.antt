@@ -17,7 +17,7 @@ other-party p = part-rest 16 (length p) p (omega arith)
 
 returns : tie.Need-returns
 unfolding partiesOf _and_ _or_ neg
-returns c = rw (← one-party, ← other-party) (cc)
+returns c = rw (← one-party, ← other-party) (simp (c .same3 .ensures, c .before .same2 .ensures, c .before .before .same .ensures, c .before .before .before .part-of2 .ensures, c .before .before .before .before .part-of .ensures) refl)
 
 pub parties-of-spec : {M : Type 1} → statement M
 parties-of-spec =

@@ -1,5 +1,5 @@
 -- The tests are the definition's.
-use Rattle.laws.specs.Kit.{needs}
+use Rattle.laws.specs.Kit.{needs, refl}
 use Rattle.laws.specs.Tests.{_or_, is}
 use Rattle.paper.specs.Sound.{partnerSound}
 use Rattle.forms.proofs.series.partner_sound.Statement.{statement}
@@ -7,7 +7,9 @@ use Rattle.forms.proofs.series.partner_sound.Tie as tie
 
 returns : tie.Need-returns
 unfolding partnerSound _or_ is
-returns c = cc
+returns c =
+    let p = c .before .before in
+    simp (c .is-series .ensures, c .before .numbered .ensures, p .partner2 .ensures, p .before .before .partner .ensures) refl
 
 pub partner-sound-spec : {M : Type 1} → statement M
 partner-sound-spec =

@@ -7,7 +7,17 @@ use Rattle.forms.proofs.series.series_fields.Tie as tie
 
 returns : tie.Need-returns
 unfolding seriesFields _and_ is
-returns c = simp (c .id-well-formed .ensures, c .before .id-of .ensures, c .before .before .contract-type .ensures, c .before .before .before .business-type .ensures, c .before .before .before .before .version-allowed .ensures, c .before .before .before .before .before .version .ensures, c .before .before .before .before .before .before .n-of2 .ensures, c .before .before .before .before .before .before .before .n-of .ensures)
+returns c =
+    simp (
+      c .id-well-formed .ensures,
+      c .before .id-of .ensures,
+      c .before .before .contract-type .ensures,
+      c .before .before .before .business-type .ensures,
+      c .before .before .before .before .version-allowed .ensures,
+      c .before .before .before .before .before .version .ensures,
+      c .before .before .before .before .before .before .n-of2 .ensures,
+      c .before .before .before .before .before .before .before .n-of .ensures,
+    )
 
 pub series-fields-spec : {M : Type 1} → statement M
 series-fields-spec =

@@ -7,7 +7,14 @@ use Rattle.forms.proofs.series.series_values.Tie as tie
 
 returns : tie.Need-returns
 unfolding seriesValues _and_ upto
-returns c = simp (c .quantities-allowed .ensures, c .before .before .first .ensures, c .before .before .before .state2 .ensures, c .before .before .before .before .state .ensures, c .before .before .before .before .before .n-of .ensures)
+returns c =
+    simp (
+      c .quantities-allowed .ensures,
+      c .before .before .first .ensures,
+      c .before .before .before .state2 .ensures,
+      c .before .before .before .before .state .ensures,
+      c .before .before .before .before .before .n-of .ensures,
+    )
 
 pub series-values-spec : {M : Type 1} → statement M
 series-values-spec =
