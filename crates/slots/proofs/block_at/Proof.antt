@@ -1,5 +1,5 @@
 -- Past the last whole block there is none; before it, the part cut out is the block.
-use Rattle.laws.specs.Kit.{needs, arith}
+use Rattle.laws.specs.Kit.{arith}
 use Rattle.slots.proofs.Laws.{block-none, block-some}
 use Rattle.slots.proofs.block_at.Statement.{statement}
 use Rattle.slots.proofs.block_at.Tie as tie
