@@ -143,9 +143,9 @@ fn find_each(
     ensures { λ _. ⌜ Found (slot .0) by (cut 512 (now (us .entry))) (cut 512 (now (of .entry))) (now (found .exit)) ⌝ }
 {
     let own = slot.0;
-    let many = of.len() / 512;
+    let blocks = of.len() / 512;
     let mut k = 0;
-    while k < many {
+    while k < blocks {
         let v = key_of(by, block_at(of, k));
         found[k] = own_with(us, Slot(own), by, v, heads, nexts) as u16;
         k += 1;

@@ -77,10 +77,10 @@ pub fn blocks_apart(us: &[u8], nexts: &[u16; 1000], ids: &[u32; 1000], pairs: &[
     requires { ⌜ (length (now us) / 512 ≤ 1000) × Nexts inGroup (cut 512 (now us)) 0 (now nexts) × Tags (cut 512 (now us)) (length (now us) / 512) (now ids) (now pairs) ⌝ }
     ensures { λ r. ⌜ r ≡ apart clashes (cut 512 (now (us .entry))) ⌝ }
 {
-    let many = us.len() / 512;
+    let blocks = us.len() / 512;
     let mut ok = true;
     let mut i = 0;
-    while i < many {
+    while i < blocks {
         ok = ok & clear_of_later(us, nexts, ids, pairs, i);
         i += 1;
     }

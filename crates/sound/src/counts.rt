@@ -45,10 +45,10 @@ pub fn counts_right(us: &[u8], heads: &[u16; 1024], nexts: &[u16; 1000]) -> bool
     requires { ⌜ (length (now us) / 512 ≤ 1000) × Links inGroup (cut 512 (now us)) 0 (now heads) (now nexts) × (apart clashes (cut 512 (now us)) ≡ true) ⌝ }
     ensures { λ r. ⌜ r ≡ every (countRight (cut 512 (now (us .entry)))) (cut 512 (now (us .entry))) ⌝ }
 {
-    let many = us.len() / 512;
+    let blocks = us.len() / 512;
     let mut ok = true;
     let mut i = 0;
-    while i < many {
+    while i < blocks {
         ok = ok & count_right(us, heads, nexts, i);
         i += 1;
     }

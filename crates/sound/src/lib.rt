@@ -49,10 +49,10 @@ fn all_fields(table: &[u8; 256], d: &[u8], us: &[u8]) -> bool
     requires { ⌜ IsTable (now table) × (nOf (now d) ≤ 100) ⌝ }
     ensures { λ r. ⌜ r ≡ every (usedFields (now (d .entry)) (cut 512 (now (us .entry)))) (cut 512 (now (us .entry))) ⌝ }
 {
-    let many = us.len() / 512;
+    let blocks = us.len() / 512;
     let mut ok = true;
     let mut i = 0;
-    while i < many {
+    while i < blocks {
         ok = ok & used_fields(table, d, us, block_at(us, i));
         i += 1;
     }

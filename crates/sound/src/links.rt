@@ -73,9 +73,9 @@ pub fn tag(us: &[u8], ids: &mut [u32; 1000], pairs: &mut [u32; 1000])
     requires { ⌜ (length (now us) / 512 ≤ 1000) × (length (now ids) ≡ 1000) × (length (now pairs) ≡ 1000) ⌝ }
     ensures { λ _. ⌜ Tags (cut 512 (now (us .entry))) (length (now (us .entry)) / 512) (now (ids .exit)) (now (pairs .exit)) ⌝ }
 {
-    let many = us.len() / 512;
+    let blocks = us.len() / 512;
     let mut i = 0;
-    while i < many {
+    while i < blocks {
         let b = block_at(us, i);
         ids[i] = id_tag(b);
         pairs[i] = pair_tag(b);

@@ -7,10 +7,10 @@ use Rattle.index.proofs.find_each.Statement.{statement}
 use Rattle.index.proofs.find_each.Tie as tie
 
 abbrev Inv-loop : tie.InvT-loop
-Inv-loop us by heads nexts of found₀ own many k₀ found k = (k ≤ length of / 512) × FoundUpto own by (cut 512 us) (cut 512 of) k found × (length found ≡ 1000)
+Inv-loop us by heads nexts of found₀ own blocks k₀ found k = (k ≤ length of / 512) × FoundUpto own by (cut 512 us) (cut 512 of) k found × (length found ≡ 1000)
 
 abbrev μ-loop : tie.MeasureT-loop
-μ-loop us by heads nexts of found₀ own many k₀ found k = length of / 512 - k
+μ-loop us by heads nexts of found₀ own blocks k₀ found k = length of / 512 - k
 
 loop-holds : tie.Need-loop-holds Inv-loop μ-loop
 loop-holds c = (search needs, found-none _ _ _ _ _, search needs)

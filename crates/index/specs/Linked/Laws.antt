@@ -6,11 +6,11 @@ use Prim.Native.Nat.{ℕ, zero, suc, _+_, _-_, _/_, _≤_, _<_}
 use native.Mathlib.Nat.{add-zero}
 use native.Mathlib.Numerals.{add-one}
 use native.Mathlib.Omega.{arith}
-use lib.ListN.{length, take, drop, getD, set, length-drop, length-set, drop-of-length-le}
+use lib.ListN.{length, drop, getD, set, length-drop, length-set, drop-of-length-le}
 use lib.Seq.{drop-cons, drop-drop, getD-drop, getD-set-same, getD-set-other}
 use Rattle.laws.specs.Tests.{_and_, is, less}
-use Rattle.laws.specs.Tests.Laws.{split, clash, is-yes, is-no, is-equal, less-yes, less-no, and-left, and-right, and-both, or-left, or-right, or-no}
-use Rattle.laws.specs.Lists.{has, place, same}
+use Rattle.laws.specs.Tests.Laws.{split, clash, is-yes, is-no, is-equal, less-yes, less-no, and-left, and-right, and-both}
+use Rattle.laws.specs.Lists.{place}
 use Rattle.laws.specs.Lists.Same.{same-yes}
 use Rattle.laws.specs.Lists.Each.{all-imply, every-all, all-getD}
 use Rattle.laws.specs.Cut.{cut}

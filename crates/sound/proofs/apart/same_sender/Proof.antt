@@ -7,7 +7,14 @@ use Rattle.sound.proofs.apart.same_sender.Tie as tie
 
 returns : tie.Need-returns
 unfolding sameSender _and_
-returns c = simp (c .same .ensures, c .before .sender2 .ensures, c .before .before .sender .ensures, c .before .before .before .is-sender2 .ensures, c .before .before .before .before .is-sender .ensures)
+returns c =
+    simp (
+      c .same .ensures,
+      c .before .sender2 .ensures,
+      c .before .before .sender .ensures,
+      c .before .before .before .is-sender2 .ensures,
+      c .before .before .before .before .is-sender .ensures,
+    )
 
 pub same-sender-spec : {M : Type 1} → statement M
 same-sender-spec =

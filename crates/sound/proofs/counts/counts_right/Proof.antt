@@ -9,10 +9,10 @@ use Rattle.sound.proofs.counts.counts_right.Statement.{statement}
 use Rattle.sound.proofs.counts.counts_right.Tie as tie
 
 abbrev Inv-loop : tie.InvT-loop
-Inv-loop us heads nexts many ok₀ i₀ ok i = every (countRight (cut 512 us)) (cut 512 us) ≡ (ok and every (countRight (cut 512 us)) (drop i (cut 512 us)))
+Inv-loop us heads nexts blocks ok₀ i₀ ok i = every (countRight (cut 512 us)) (cut 512 us) ≡ (ok and every (countRight (cut 512 us)) (drop i (cut 512 us)))
 
 abbrev μ-loop : tie.MeasureT-loop
-μ-loop us heads nexts many ok₀ i₀ ok i = length us / 512 - i
+μ-loop us heads nexts blocks ok₀ i₀ ok i = length us / 512 - i
 
 loop-again : tie.Need-loop-again Inv-loop μ-loop
 loop-again c = every-go _ _ (c .before .before .loop .inv) (step-cut-at _ _ _ (c .before .loop-test .taken)) (c .count-right .ensures)

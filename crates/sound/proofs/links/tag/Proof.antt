@@ -7,10 +7,10 @@ use Rattle.sound.proofs.links.tag.Statement.{statement}
 use Rattle.sound.proofs.links.tag.Tie as tie
 
 abbrev Inv-loop : tie.InvT-loop
-Inv-loop us ids₀ pairs₀ many i₀ ids pairs i = (i ≤ length us / 512) × Tags (cut 512 us) i ids pairs × (length ids ≡ 1000) × (length pairs ≡ 1000)
+Inv-loop us ids₀ pairs₀ blocks i₀ ids pairs i = (i ≤ length us / 512) × Tags (cut 512 us) i ids pairs × (length ids ≡ 1000) × (length pairs ≡ 1000)
 
 abbrev μ-loop : tie.MeasureT-loop
-μ-loop us ids₀ pairs₀ many i₀ ids pairs i = length us / 512 - i
+μ-loop us ids₀ pairs₀ blocks i₀ ids pairs i = length us / 512 - i
 
 loop-holds : tie.Need-loop-holds Inv-loop μ-loop
 loop-holds c =
