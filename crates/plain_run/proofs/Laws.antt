@@ -1,15 +1,11 @@
 -- What a sound book says of its length and of n, and the answer from what is found.
-use Rattle.laws.specs.Kit.{_≡_, ap, _∙_, Bool, true, false, _&&_, [], ℕ, _-_, _*_, _/_, _≤_, _<_, arith, length, take, drop}
-use lib.ListN.{drop-of-length-le}
+use Rattle.laws.specs.Kit.{_≡_, ap, _∙_, Bool, true, false, _&&_, ℕ, _/_, _≤_, arith, length}
 use Rattle.laws.specs.Tests.{_and_}
-use Rattle.laws.specs.Lists.{every, until}
-use Rattle.laws.specs.Lists.Keep.{until-take, until-length}
+use Rattle.laws.specs.Lists.{every}
 use Rattle.laws.specs.Bytes.{part}
-use Rattle.laws.specs.Slices.{rest-slice}
 use Rattle.laws.specs.Cut.{cut}
-use Rattle.laws.specs.Cut.Laws.{cut-length, cut-short, take-cut}
 use Rattle.paper.specs.Layout.{Bytes, nOf}
-use Rattle.paper.specs.Book.{dayBlock, slots, isFree, used}
+use Rattle.paper.specs.Book.{dayBlock, used}
 use Rattle.paper.specs.Sound.{sound}
 use Rattle.paper.specs.PlainRun.{markTrue, netsTrue, plainRun}
 use Rattle.facts.specs.Sound.{sound-says, day-n}

@@ -2,11 +2,10 @@
 // sought among the few series of its pair's bucket, each sender's series among all used slots: of these only the kind and the sender's slot are looked
 // at where they are another's.
 ghost use mathlib.Core.Path.{_≡_};
-ghost use Prim.Native.Nat.{_-_, _/_, _≤_};
+ghost use Prim.Native.Nat.{_/_, _≤_};
 ghost use lib.ListN.{length};
 ghost use Rattle.laws.specs.Lists.{every};
 ghost use Rattle.laws.specs.Cut.{cut};
-ghost use Rattle.paper.specs.Book.{used};
 ghost use Rattle.paper.specs.PlainRun.{markTrue, netsTrue, plainRun};
 ghost use Rattle.index.specs.Linked.{seriesIn, Links};
 use field::part_of;
