@@ -12,11 +12,13 @@ use Rattle.cases.specs.Case.{Case, _gives_, wrong, once}
 use Rattle.cases.specs.Opened.{paper}
 use Rattle.cases.specs.Examples.{seller, buyer, head, steady, butAt, sale, purchase, examples}
 use Rattle.message_words.specs.Words.{before, behind, linesUpTo, lines, word, value, skipped, numberOf, firstOf, lastOf}
-use Rattle.message_text.specs.MessageText.{padded, withText, withVersion, withN, withArea, spread, withPositions, senderPlace, seriesPlace, inSender, inSeries, inBlock, fieldLaid, newSeries, withBlock, counted, begun, withLine, started, withLines, messageText}
+use Rattle.layout.specs.Written.{padded, withFront, withSeriesCount, withBusinessType, withField, withQuantity}
+use Rattle.layout.specs.Written.{withN as nWritten, withVersion as versionWritten}
+use Rattle.message_text.specs.MessageText.{withText, withVersion, withN, withArea, spread, withPositions, senderField, seriesField, inSender, inSeries, inBlock, fieldLaid, newBlock, newSeries, withBlock, counted, begun, withLine, started, withLines, messageText}
 
 -- to name it on an `unfolding` line opens the text form
 unfoldable pub textForm : ℕ
-unfolding before behind linesUpTo lines word value skipped numberOf firstOf lastOf padded withText withVersion withN withArea spread withPositions senderPlace seriesPlace inSender inSeries inBlock fieldLaid newSeries withBlock counted begun withLine started withLines messageText
+unfolding before behind linesUpTo lines word value skipped numberOf firstOf lastOf padded withFront withSeriesCount withBusinessType withField withQuantity nWritten versionWritten withText withVersion withN withArea spread withPositions senderField seriesField inSender inSeries inBlock fieldLaid newBlock newSeries withBlock counted begun withLine started withLines messageText
 textForm = 0
 
 -- the buffer after it, which held sevens

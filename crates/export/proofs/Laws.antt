@@ -6,9 +6,9 @@ use mathlib.Core.Option.{Option·getD}
 use mathlib.Core.List.{List, [], _∷_}
 use Prim.Native.Nat.{ℕ, zero, suc, _*_, _/_, _≤_, _<_}
 use native.Mathlib.Omega.{arith}
-use lib.ListN.{length, take, drop, getD, List·getD-eq-default}
+use lib.ListN.{length, drop, getD, List·getD-eq-default}
 use lib.Seq.{getD-take}
-use Rattle.laws.specs.Tests.{_or_, is}
+use Rattle.laws.specs.Tests.{_or_}
 use Rattle.laws.specs.Tests.Laws.{is-equal, is-other, upto-true, upto-false, lt-or}
 use Rattle.laws.specs.Lists.{nth, place, until}
 use Rattle.laws.specs.Lists.Search.{nth-place, place-length}

@@ -2,16 +2,18 @@
 use mathlib.Core.Path.{_≡_}
 use mathlib.Core.Bool.{Bool, true, false, cond}
 use mathlib.Core.List.{List, [], _∷_, _++_}
-use Prim.Native.Nat.{ℕ, zero, suc, _+_, _-_, _*_}
-use lib.ListN.{length, take, drop, getD}
+use Prim.Native.Nat.{ℕ, zero, suc, _+_, _-_, _*_, _%_}
+use lib.ListN.{length, take, drop}
 use Rattle.laws.specs.Tests.{_and_, is, less, upto}
 use Rattle.laws.specs.Lists.{same}
-use Rattle.laws.specs.Bytes.{part, written, little}
+use Rattle.laws.specs.Bytes.{part}
 use Rattle.paper.specs.Check.{sealed}
 use Rattle.paper.specs.Layout.{Bytes, Block, nOf, version}
 use Rattle.paper.specs.QuantityText.{quantityRead}
 use Rattle.paper.specs.Listing.{text}
-use Rattle.message_text.specs.declared.Place.{Place}
+use Rattle.layout.specs.declared.write.Field.{Field}
+use Rattle.layout.specs.Written.{padded, withFront, withSeriesCount, withBusinessType, withField, withQuantity}
+use Rattle.layout.specs.Written.{withN as nWritten, withVersion as versionWritten}
 use Rattle.message_text.specs.declared.Laid.{Laid}
 use Rattle.message_text.specs.declared.TextRead.{TextRead}
 use Rattle.message_words.specs.Words.{lines, word, value, skipped, numberOf, firstOf, lastOf}
@@ -22,32 +24,27 @@ Gives p r x = (r ≡ p .0) × (x ≡ p .1)
 
 -- ---- a field: whether the value is fine, and the block with it
 
--- a field of m bytes: v, then zero bytes
-unfoldable pub padded : ℕ → Bytes → Bytes
-padded zero v = []
-padded (suc m) v = getD v 0 0 ∷ padded m (drop 1 v)
+-- where a text stands in a block, and how wide its field is: 0 where a word names no text
+abbrev pub field : ℕ → ℕ → Field
+field at width = record { at = at; width = width }
 
--- a text's place in a block, and how long it is at most: 0 where a word names no text
-abbrev pub place : ℕ → ℕ → Place
-place at most = record { at = at; most = most }
-
-unfoldable pub withText : Place → Bytes → Block → Bool × Block
-withText p v x = (less 0 (p .most) and upto (length v) (p .most), written (p .at) (padded (p .most) v) x)
+unfoldable pub withText : Field → Bytes → Block → Bool × Block
+withText f v x = (less 0 (f .width) and upto (length v) (f .width), withField f v x)
 
 unfoldable pub withVersion : Bytes → Block → Bool × Block
-withVersion v x = (less (numberOf v) 10000, written 2 (little 2 (numberOf v)) x)
+withVersion v x = (less (numberOf v) 10000, versionWritten (numberOf v) x)
 
 unfoldable pub withN : Bytes → Block → Bool × Block
-withN v x = (less (numberOf v) 256, written 1 (little 1 (numberOf v)) x)
+withN v x = (less (numberOf v) 256, nWritten (numberOf v % 256) x)
 
 -- in area and out area
 unfoldable pub withArea : Bytes → Block → Bool × Block
-withArea v x = withText (place 40 16) v ((withText (place 24 16) v x) .1)
+withArea v x = withText (field 40 16) v ((withText (field 24 16) v x) .1)
 
 -- a quantity at m positions, before which there are k
 unfoldable pub spread : (m k kilowatts : ℕ) → Block → Block
 spread zero k q x = x
-spread (suc m) k q x = spread m (k + 1) q (written (108 + 4 * k) (little 4 q) x)
+spread (suc m) k q x = spread m (k + 1) q (withQuantity k q x)
 
 -- positions as a word names them, and a quantity text
 unfoldable pub withPositions : Bytes → Bytes → Block → Bool × Block
@@ -58,25 +55,25 @@ withPositions w v x =
 
 -- ---- a line in the sender's block, and in a series' block
 
-unfoldable pub senderPlace : Bytes → Place
-senderPlace w =
-    cond (same w (text "message")) (place 8 16)
-    (cond (same w (text "sender")) (place 24 16)
-    (cond (same w (text "receiver")) (place 40 16)
-    (cond (same w (text "day")) (place 56 8) (place 0 0))))
+unfoldable pub senderField : Bytes → Field
+senderField w =
+    cond (same w (text "message")) (field 8 16)
+    (cond (same w (text "sender")) (field 24 16)
+    (cond (same w (text "receiver")) (field 40 16)
+    (cond (same w (text "day")) (field 56 8) (field 0 0))))
 
-unfoldable pub seriesPlace : Bytes → Place
-seriesPlace w = cond (same w (text "in")) (place 56 16) (cond (same w (text "out")) (place 72 16) (place 0 0))
+unfoldable pub seriesField : Bytes → Field
+seriesField w = cond (same w (text "in")) (field 56 16) (cond (same w (text "out")) (field 72 16) (field 0 0))
 
 unfoldable pub inSender : Bytes → Bytes → Block → Bool × Block
-inSender w v x = cond (same w (text "version")) (withVersion v x) (cond (same w (text "n")) (withN v x) (withText (senderPlace w) v x))
+inSender w v x = cond (same w (text "version")) (withVersion v x) (cond (same w (text "n")) (withN v x) (withText (senderField w) v x))
 
 -- a word that names no field names positions, or is wrong
 unfoldable pub inSeries : Bytes → Bytes → Block → Bool × Block
 inSeries w v x =
     cond (same w (text "version")) (withVersion v x)
     (cond (same w (text "area")) (withArea v x)
-    (cond (is ((seriesPlace w) .most) 0) (withPositions w v x) (withText (seriesPlace w) v x)))
+    (cond (is ((seriesField w) .width) 0) (withPositions w v x) (withText (seriesField w) v x)))
 
 unfoldable pub inBlock : ℕ → Bytes → Bytes → Block → Bool × Block
 inBlock series w v x = cond (is series 0) (inSender w v x) (inSeries w v x)
@@ -97,13 +94,17 @@ fieldLaid series w v b = (
   withBlock (512 * series) (sealed ((inBlock series w v (part (512 * series) 512 b)) .1)) b,
 )
 
+-- kind, n and version, and nothing else
+unfoldable pub newBlock : (kind n version : ℕ) → Block
+newBlock kind n version = withFront kind n version (padded 512 [])
+
 -- a series begins: kind 2, the sender block's n and version, business type 2, its id
 unfoldable pub newSeries : (n version : ℕ) (id : Bytes) → Block
-newSeries n version id = sealed (written 8 (padded 16 id) (padded 512 (2 ∷ n ∷ little 2 version ++ 2 ∷ [])))
+newSeries n version id = sealed (withField (field 8 16) id (withBusinessType 2 (newBlock 2 n version)))
 
 -- the sender's block counts it
 unfoldable pub counted : ℕ → Bytes → Bytes
-counted series b = withBlock 0 (sealed (written 4 (little 2 series) (part 0 512 b))) b
+counted series b = withBlock 0 (sealed (withSeriesCount series (part 0 512 b))) b
 
 -- at most 200 series, and room for one more
 unfoldable pub begun : ℕ → Bytes → Bytes → Laid × Bytes
@@ -121,7 +122,7 @@ withLine series l b =
 
 -- kind 1
 unfoldable pub started : Bytes → Bytes
-started b = withBlock 0 (sealed (padded 512 (1 ∷ []))) b
+started b = withBlock 0 (sealed (newBlock 1 0 0)) b
 
 abbrev pub wrongAt : ℕ → TextRead
 wrongAt line = record { line = line; length = 0 }

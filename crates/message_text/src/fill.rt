@@ -3,55 +3,48 @@ ghost use mathlib.Core.Path.{_≡_};
 ghost use Prim.Native.Nat.{_+_, _-_, _≤_};
 ghost use lib.ListN.{length};
 ghost use Rattle.laws.specs.Tests.{_and_, less, upto};
-ghost use Rattle.laws.specs.Bytes.{written};
-ghost use Rattle.message_text.specs.MessageText.{Gives, padded, spread, withText, withVersion, withN, withArea, withPositions};
-ghost use Rattle.message_text.specs.MessageText.{senderPlace, seriesPlace, inSender, inSeries, inBlock};
-use super::Place;
-use block::numbers::byte_or_zero;
-use block::numbers::write_2;
-use block::numbers::write_4;
+ghost use Rattle.message_text.specs.MessageText.{Gives, spread, withText, withVersion, withN, withArea, withPositions};
+ghost use Rattle.message_text.specs.MessageText.{senderField, seriesField, inSender, inSeries, inBlock};
 use field::same;
+use layout::write::DAY;
+use layout::write::Field;
+use layout::write::ID;
+use layout::write::IN_AREA;
+use layout::write::IN_PARTY;
+use layout::write::OUT_AREA;
+use layout::write::OUT_PARTY;
+use layout::write::RECEIVER;
+use layout::write::SENDER;
+use layout::write::write_field;
+use layout::write::write_n;
+use layout::write::write_quantity;
+use layout::write::write_version;
 use message_words::first_of;
 use message_words::last_of;
 use message_words::number_of;
 use quantity::quantity_read;
 
-// A field of `most` bytes: v, then zero bytes.
-pub fn put_padded(s: &mut [u8], at: usize, most: usize, v: &[u8])
-    requires { ⌜ at + most ≤ length (now s) ⌝ }
-    ensures { λ _. ⌜ now (s .exit) ≡ written at (padded most (now (v .entry))) (now (s .entry)) ⌝ }
+fn put_text(block: &mut [u8], field: Field, v: &[u8]) -> bool
+    requires { ⌜ field .at + field .width ≤ length (now block) ⌝ }
+    ensures { λ r. ⌜ Gives (withText field (now (v .entry)) (now (block .entry))) r (now (block .exit)) ⌝ }
 {
-    let mut i = 0;
-    while i < most {
-        s[at + i] = byte_or_zero(v, i);
-        i += 1;
-    }
-}
-
-fn put_text(block: &mut [u8], place: Place, v: &[u8]) -> bool
-    requires { ⌜ place .at + place .most ≤ length (now block) ⌝ }
-    ensures { λ r. ⌜ Gives (withText place (now (v .entry)) (now (block .entry))) r (now (block .exit)) ⌝ }
-{
-    let at = place.at;
-    let most = place.most;
-    put_padded(block, at, most, v);
-    (0 < most) & (v.len() <= most)
+    write_field(block, field, v);
+    (0 < field.width) & (v.len() <= field.width)
 }
 
 fn put_version(block: &mut [u8], v: &[u8]) -> bool
     ensures { λ r. ⌜ Gives (withVersion (now (v .entry)) (now (block .entry))) r (now (block .exit)) ⌝ }
 {
     let x = number_of(v);
-    write_2(block, 2, (x % 65536) as u16);
+    write_version(block, (x % 65536) as u16);
     x < 10000
 }
 
 fn put_n(block: &mut [u8], v: &[u8]) -> bool
-    requires { ⌜ length (now block) ≡ 512 ⌝ }
     ensures { λ r. ⌜ Gives (withN (now (v .entry)) (now (block .entry))) r (now (block .exit)) ⌝ }
 {
     let x = number_of(v);
-    block[1] = (x % 256) as u8;
+    write_n(block, (x % 256) as u8);
     x < 256
 }
 
@@ -60,8 +53,8 @@ fn put_area(block: &mut [u8], v: &[u8]) -> bool
     requires { ⌜ length (now block) ≡ 512 ⌝ }
     ensures { λ r. ⌜ Gives (withArea (now (v .entry)) (now (block .entry))) r (now (block .exit)) ⌝ }
 {
-    put_text(block, Place { at: 24, most: 16 }, v);
-    put_text(block, Place { at: 40, most: 16 }, v)
+    put_text(block, IN_AREA, v);
+    put_text(block, OUT_AREA, v)
 }
 
 // The positions behind the first `start`, up to `last`.
@@ -71,7 +64,7 @@ fn put_quantities(block: &mut [u8], start: usize, last: usize, kilowatts: u32)
 {
     let mut k = start;
     while k < last {
-        write_4(block, 108 + 4 * k, kilowatts);
+        write_quantity(block, k, kilowatts);
         k += 1;
     }
 }
@@ -99,34 +92,34 @@ fn put_positions(block: &mut [u8], w: &[u8], v: &[u8]) -> bool
     true
 }
 
-fn sender_place(w: &[u8]) -> Place
-    ensures { λ r. ⌜ (r ≡ senderPlace (now (w .entry))) × (r .at + r .most ≤ 512) ⌝ }
+fn sender_field(w: &[u8]) -> Field
+    ensures { λ r. ⌜ (r ≡ senderField (now (w .entry))) × (r .at + r .width ≤ 512) ⌝ }
 {
     if same(w, b"message") {
-        return Place { at: 8, most: 16 };
+        return ID;
     }
     if same(w, b"sender") {
-        return Place { at: 24, most: 16 };
+        return SENDER;
     }
     if same(w, b"receiver") {
-        return Place { at: 40, most: 16 };
+        return RECEIVER;
     }
     if same(w, b"day") {
-        return Place { at: 56, most: 8 };
+        return DAY;
     }
-    Place { at: 0, most: 0 }
+    Field { at: 0, width: 0 }
 }
 
-fn series_place(w: &[u8]) -> Place
-    ensures { λ r. ⌜ (r ≡ seriesPlace (now (w .entry))) × (r .at + r .most ≤ 512) ⌝ }
+fn series_field(w: &[u8]) -> Field
+    ensures { λ r. ⌜ (r ≡ seriesField (now (w .entry))) × (r .at + r .width ≤ 512) ⌝ }
 {
     if same(w, b"in") {
-        return Place { at: 56, most: 16 };
+        return IN_PARTY;
     }
     if same(w, b"out") {
-        return Place { at: 72, most: 16 };
+        return OUT_PARTY;
     }
-    Place { at: 0, most: 0 }
+    Field { at: 0, width: 0 }
 }
 
 fn in_sender(block: &mut [u8], w: &[u8], v: &[u8]) -> bool
@@ -139,7 +132,7 @@ fn in_sender(block: &mut [u8], w: &[u8], v: &[u8]) -> bool
     if same(w, b"n") {
         return put_n(block, v);
     }
-    put_text(block, sender_place(w), v)
+    put_text(block, sender_field(w), v)
 }
 
 // A word that names no field is taken for positions, which refuse it if it is none.
@@ -153,11 +146,11 @@ fn in_series(block: &mut [u8], w: &[u8], v: &[u8]) -> bool
     if same(w, b"area") {
         return put_area(block, v);
     }
-    let place = series_place(w);
-    if place.most == 0 {
+    let field = series_field(w);
+    if field.width == 0 {
         return put_positions(block, w, v);
     }
-    put_text(block, place, v)
+    put_text(block, field, v)
 }
 
 // Before the first series a line speaks of the sender's block, then of the last series.

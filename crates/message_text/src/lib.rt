@@ -2,20 +2,23 @@
 ghost use mathlib.Core.Path.{_≡_};
 ghost use Prim.Native.Nat.{_+_, _*_, _≤_};
 ghost use mathlib.Core.Bool.{true};
-ghost use mathlib.Core.List.{[], _∷_};
 ghost use lib.ListN.{length};
-ghost use Rattle.laws.specs.Bytes.{written, little};
 ghost use Rattle.paper.specs.Check.{sealed};
-ghost use Rattle.message_text.specs.MessageText.{Gives, fieldLaid, newSeries, begun, withLine, messageText};
-ghost use Rattle.message_text.specs.MessageText.{inBlock, laid, padded, withLines};
+ghost use Rattle.layout.specs.Written.{withSeriesCount};
+ghost use Rattle.message_text.specs.MessageText.{Gives, fieldLaid, newBlock, newSeries, begun, withLine, messageText};
+ghost use Rattle.message_text.specs.MessageText.{inBlock, laid, withLines};
 ghost use Rattle.message_words.specs.Words.{lines};
 use block::check::seal;
-use block::numbers::write_2;
 use field::same;
 use fill::in_block;
-use fill::put_padded;
 use layout::n_of;
 use layout::version;
+use layout::write::Field;
+use layout::write::ID;
+use layout::write::write_business_type;
+use layout::write::write_field;
+use layout::write::write_front;
+use layout::write::write_series_count;
 use message_words::line_at;
 use message_words::next_line;
 use message_words::skipped;
@@ -23,12 +26,6 @@ use message_words::value;
 use message_words::word;
 
 pub mod fill;
-
-// Where a text stands in a block, and how long it is at most: 0 where a word names no text.
-pub struct Place {
-    pub at: usize,
-    pub most: usize,
-}
 
 // What became of a line: whether it was fine, and how many series there are now.
 pub struct Laid {
@@ -62,21 +59,30 @@ fn lay_field(buffer: &mut [u8], series: usize, w: &[u8], v: &[u8]) -> Laid
     Laid { fine, series }
 }
 
+// What is not said is zero.
+fn write_block(block: &mut [u8], kind: u8, n: u8, version: u16)
+    requires { ⌜ length (now block) ≡ 512 ⌝ }
+    ensures { λ _. ⌜ now (block .exit) ≡ newBlock kind n version ⌝ }
+{
+    write_field(block, Field { at: 0, width: 512 }, b"");
+    write_front(block, kind, n, version);
+}
+
 // n and version are the sender block's until a line says otherwise.
 fn write_series(block: &mut [u8], n: u8, version: u16, id: &[u8])
     requires { ⌜ length (now block) ≡ 512 ⌝ }
     ensures { λ _. ⌜ now (block .exit) ≡ newSeries n version (now (id .entry)) ⌝ }
 {
-    let first = [2, n, (version % 256) as u8, (version / 256 % 256) as u8, 2];
-    put_padded(block, 0, 512, &first);
-    put_padded(block, 8, 16, id);
+    write_block(block, 2, n, version);
+    write_business_type(block, 2);
+    write_field(block, ID, id);
     seal(block);
 }
 
 fn count_series(block: &mut [u8], series: usize)
-    ensures { λ _. ⌜ now (block .exit) ≡ sealed (written 4 (little 2 series) (now (block .entry))) ⌝ }
+    ensures { λ _. ⌜ now (block .exit) ≡ sealed (withSeriesCount series (now (block .entry))) ⌝ }
 {
-    write_2(block, 4, (series % 65536) as u16);
+    write_series_count(block, (series % 65536) as u16);
     seal(block);
 }
 
@@ -124,9 +130,9 @@ fn lay_line(buffer: &mut [u8], series: usize, line: &[u8]) -> Laid
 
 fn write_start(block: &mut [u8])
     requires { ⌜ length (now block) ≡ 512 ⌝ }
-    ensures { λ _. ⌜ now (block .exit) ≡ sealed (padded 512 (1 ∷ [])) ⌝ }
+    ensures { λ _. ⌜ now (block .exit) ≡ sealed (newBlock 1 0 0) ⌝ }
 {
-    put_padded(block, 0, 512, &[1]);
+    write_block(block, 1, 0, 0);
     seal(block);
 }
 

@@ -4,28 +4,9 @@ ghost use Prim.Native.Nat.{_+_, _-_, _<_, _≤_};
 ghost use lib.ListN.{length, drop};
 ghost use Rattle.message_words.specs.Words.{before, behind, word, value, skipped, numberOf, firstOf, lastOf};
 use block::numbers::byte_or_zero;
-use field::part_of;
+use field::length_before;
+use field::part_before;
 use quantity::quantity_read;
-
-// How many bytes stand before the first x.
-fn length_before(s: &[u8], x: u8) -> usize
-    ensures { λ r. ⌜ (r ≡ length (before x (now (s .entry)))) × (r ≤ length (now (s .entry))) ⌝ }
-{
-    let mut i = 0;
-    while i < s.len() {
-        if s[i] == x {
-            return i;
-        }
-        i += 1;
-    }
-    i
-}
-
-pub fn part_before(s: &[u8], x: u8) -> &[u8]
-    ensures { λ r. ⌜ now r ≡ before x (now (s .entry)) ⌝ }
-{
-    part_of(s, 0, length_before(s, x))
-}
 
 // Where what is behind the first x begins: at most at the end, where there is no x or nothing behind it.
 fn start_behind(s: &[u8], x: u8) -> usize

@@ -9,14 +9,15 @@ use lib.ListN.{length, take, drop}
 use lib.Seq.{drop-drop}
 use Rattle.laws.specs.Tests.{_and_, less, upto}
 use Rattle.laws.specs.Tests.Laws.{and-both, and-no-left, and-no-right, less-true, less-false, upto-true, upto-false}
-use Rattle.laws.specs.Bytes.{part, written, little}
+use Rattle.laws.specs.Bytes.{part}
 use Rattle.laws.specs.Slices.{part-slice}
 use Rattle.paper.specs.Check.{sealed}
 use Rattle.paper.specs.Layout.{Bytes, Block, nOf, version}
 use Rattle.message_text.specs.declared.Laid.{Laid}
 use Rattle.message_text.specs.declared.TextRead.{TextRead}
+use Rattle.layout.specs.Written.{withSeriesCount}
 use Rattle.message_words.specs.Words.{before, behind, lines}
-use Rattle.message_text.specs.MessageText.{Gives, padded, inBlock, laid, fieldLaid, newSeries, counted, withBlock, begun, withLine, started, wrongAt, withLines}
+use Rattle.message_text.specs.MessageText.{Gives, inBlock, laid, fieldLaid, newBlock, newSeries, counted, withBlock, begun, withLine, started, wrongAt, withLines}
 use Rattle.message_words.specs.Words.Laws.{lines-none, lines-more}
 
 -- ---- a block lent and back
@@ -38,7 +39,7 @@ field-back series w v b {fine} {y} f =
     let g = rw (part-slice (512 * series) (512 * series + 512) 512 b refl) at f in
     (ap (λ t. laid t series) (g .0), block-back (512 * series) b y ∙ ap (λ z. withBlock (512 * series) z b) (g .1))
 
-pub started-back : (b y : Bytes) → y ≡ sealed (padded 512 (1 ∷ [])) → y ++ drop 512 b ≡ started b
+pub started-back : (b y : Bytes) → y ≡ sealed (newBlock 1 0 0) → y ++ drop 512 b ≡ started b
 unfolding started
 started-back b y e = front-back b y ∙ ap (λ z. withBlock 0 z b) e
 
@@ -57,7 +58,7 @@ module _ (series : ℕ) (id b : Bytes) where
       (rw z, rw z)
 
   pub begun-fits : series < 200 → 512 * (series + 1) + 512 ≤ length b → {n v : ℕ} {h y : Block} → n ≡ nOf b → v ≡ version b
-      → h ≡ sealed (written 4 (little 2 (series + 1)) (take 512 b))
+      → h ≡ sealed (withSeriesCount (series + 1) (take 512 b))
       → y ≡ newSeries n v id
       → (let c = h ++ drop 512 b in Gives (begun series id b) (laid (upto (length id) 16) (series + 1)) (take (512 * (series + 1)) c ++ (y ++ drop (512 * (series + 1) + 512 - 512 * (series + 1)) (drop (512 * (series + 1)) c))))
   unfolding begun counted part

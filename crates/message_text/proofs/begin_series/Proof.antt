@@ -31,4 +31,23 @@ returns-3 c =
     (begun-fits (s .args .series) (now (s .args .id)) (now (s .args .buffer)) (omega arith) (t .if2 .left) (n .n-of .ensures) (v .version .ensures) (h .count-series .ensures) (w .write-series .ensures), omega arith)
 
 pub begin-series-spec : {M : Type 1} → statement M
-begin-series-spec = tie.close (tie.spec returns (search needs) (search needs) (search needs) returns-2 (search needs) (search needs) (search needs) slice-aggregate-count-series (search needs) (search needs) (search needs) (search needs) (search needs) (search needs) (search needs) (search needs) (search needs) returns-3)
+begin-series-spec = tie.close (tie.spec
+    returns
+    (λ c. omega arith)
+    (λ c. omega arith)
+    (λ c. omega arith)
+    returns-2
+    (search needs)
+    (search needs)
+    (λ c. omega arith)
+    slice-aggregate-count-series
+    (λ c. omega arith)
+    (search needs)
+    (λ c. omega arith)
+    (λ c. omega arith)
+    (λ c. omega arith)
+    (λ c. omega arith)
+    (λ c. omega arith)
+    (λ c. omega arith)
+    (search needs)
+    returns-3)

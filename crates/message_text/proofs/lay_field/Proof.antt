@@ -1,5 +1,5 @@
 -- The last block is lent and back; before and behind it the message stays.
-use Rattle.laws.specs.Kit.{needs}
+use Rattle.laws.specs.Kit.{needs, arith}
 use denote.Ref.{now}
 use Rattle.message_text.proofs.Laws.Lines.{field-back}
 use Rattle.message_text.proofs.lay_field.Statement.{statement}
@@ -12,4 +12,12 @@ returns c =
     (field-back (s .args .series) _ _ (now (s .args .buffer)) (f .fill-block .ensures), search needs)
 
 pub lay-field-spec : {M : Type 1} → statement M
-lay-field-spec = tie.close (tie.spec (search needs) (search needs) (search needs) (search needs) (search needs) (search needs) (search needs) returns)
+lay-field-spec = tie.close (tie.spec
+    (λ c. omega arith)
+    (λ c. omega arith)
+    (λ c. omega arith)
+    (λ c. omega arith)
+    (λ c. omega arith)
+    (search needs)
+    (search needs)
+    returns)

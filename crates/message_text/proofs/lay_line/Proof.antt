@@ -1,5 +1,5 @@
 -- The code asks the definition's questions in its order.
-use Rattle.laws.specs.Kit.{needs, sym, _∙_}
+use Rattle.laws.specs.Kit.{needs, arith, sym, _∙_}
 use Rattle.paper.specs.Listing.{text}
 use Rattle.message_text.specs.MessageText.{withLine}
 use Rattle.message_text.proofs.lay_line.Statement.{statement}
@@ -28,4 +28,16 @@ returns-3 c =
     (rw (sym (a .before .skipped .ensures) ∙ a .if1 .left, sym (v .before .word .ensures), sym (v .value .ensures), sym (t .before .same .ensures) ∙ t .if2 .left) (p .lay-field .ensures .0), p .lay-field .ensures .1)
 
 pub lay-line-spec : {M : Type 1} → statement M
-lay-line-spec = tie.close (tie.spec (search needs) returns (search needs) (search needs) (search needs) (search needs) (search needs) (search needs) returns-2 (search needs) (search needs) returns-3)
+lay-line-spec = tie.close (tie.spec
+    (search needs)
+    returns
+    (search needs)
+    (search needs)
+    (λ c. omega arith)
+    (search needs)
+    (search needs)
+    (search needs)
+    returns-2
+    (search needs)
+    (search needs)
+    returns-3)

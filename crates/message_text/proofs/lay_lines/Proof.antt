@@ -51,4 +51,19 @@ returns-2 c =
     lines-end (l .number) (l .series) (drop (l .at) t) (l .buffer) (l .inv .4) h
 
 pub lay-lines-spec : {M : Type 1} → statement M
-lay-lines-spec = tie.close (tie.spec Inv-loop μ-loop loop-holds (search needs) (search needs) (search needs) (search needs) returns (search needs) (search needs) loop-again (search needs) (search needs) (search needs) returns-2)
+lay-lines-spec = tie.close (tie.spec
+    Inv-loop
+    μ-loop
+    loop-holds
+    (search needs)
+    (search needs)
+    (λ c. omega arith)
+    (search needs)
+    returns
+    (search needs)
+    (λ c. omega arith)
+    loop-again
+    (λ c. omega arith)
+    (λ c. omega arith)
+    (search needs)
+    returns-2)

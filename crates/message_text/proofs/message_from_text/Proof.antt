@@ -34,4 +34,11 @@ returns-2 c =
     rw (less-false _ _ (t .if1 .left), ← started-back b _ (w .write-start .ensures)) (l .lay-lines .ensures)
 
 pub message-from-text-spec : {M : Type 1} → statement M
-message-from-text-spec = tie.close (tie.spec returns (search needs) slice-aggregate-write-start write-start-requires (search needs) (search needs) returns-2)
+message-from-text-spec = tie.close (tie.spec
+    returns
+    (λ c. omega arith)
+    slice-aggregate-write-start
+    write-start-requires
+    (search needs)
+    (search needs)
+    returns-2)

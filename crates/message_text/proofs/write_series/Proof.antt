@@ -1,20 +1,25 @@
--- A field as long as the block leaves nothing of what stood there.
-use Rattle.laws.specs.Kit.{needs, _∙_, ap}
-use Rattle.laws.specs.Bytes.{written, little}
+-- Each field is written as the definition has it, the check last.
+use Rattle.laws.specs.Kit.{needs, arith, _∙_, ap}
 use Rattle.paper.specs.Check.{sealed}
+use Rattle.layout.specs.Written.{withBusinessType, withField}
 use Rattle.message_text.specs.MessageText.{newSeries}
-use Rattle.message_text.proofs.Laws.Fields.{padded-all}
 use Rattle.message_text.proofs.write_series.Statement.{statement}
 use Rattle.message_text.proofs.write_series.Tie as tie
 
 returns : tie.Need-returns
-unfolding newSeries little
+unfolding newSeries
 returns c =
-    let w = c .before .before in
-    let q = w .before .before .before .before in
-    let p = q .before .before .before .before in
-    let s = p .before .before .before .before .before in
-    w .seal .ensures ∙ ap sealed (q .put-padded2 .ensures ∙ ap (written 8 _) (p .put-padded .ensures ∙ padded-all 512 _ _ (s .pre)))
+    let s = c .before .before in
+    let i = s .before .before .before .before in
+    let t = i .before .before .before .before in
+    let b = t .before .before .before .before in
+    s .seal .ensures ∙ ap sealed (i .write-field .ensures ∙ ap (withField _ _) (t .write-business-type .ensures ∙ ap (withBusinessType 2) (b .write-block .ensures)))
 
 pub write-series-spec : {M : Type 1} → statement M
-write-series-spec = tie.close (tie.spec (search needs) (search needs) (search needs) (search needs) (search needs) (search needs) (search needs) returns)
+write-series-spec = tie.close (tie.spec
+    (λ c. omega arith)
+    (λ c. omega arith)
+    (λ c. omega arith)
+    (search needs)
+    (search needs)
+    returns)

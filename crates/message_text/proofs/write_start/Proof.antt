@@ -1,16 +1,15 @@
--- A field as long as the block leaves nothing of what stood there.
-use Rattle.laws.specs.Kit.{needs, _∙_, ap}
+-- The block is made, then its check.
+use Rattle.laws.specs.Kit.{needs, arith, _∙_, ap}
 use Rattle.paper.specs.Check.{sealed}
-use Rattle.message_text.proofs.Laws.Fields.{padded-all}
 use Rattle.message_text.proofs.write_start.Statement.{statement}
 use Rattle.message_text.proofs.write_start.Tie as tie
 
 returns : tie.Need-returns
-returns c =
-    let w = c .before .before in
-    let p = w .before .before .before .before in
-    let s = p .before .before .before .before in
-    w .seal .ensures ∙ ap sealed (p .put-padded .ensures ∙ padded-all 512 _ _ (s .pre))
+returns c = let s = c .before .before in s .seal .ensures ∙ ap sealed (s .before .before .before .before .write-block .ensures)
 
 pub write-start-spec : {M : Type 1} → statement M
-write-start-spec = tie.close (tie.spec (search needs) (search needs) (search needs) (search needs) returns)
+write-start-spec = tie.close (tie.spec
+    (λ c. omega arith)
+    (search needs)
+    (search needs)
+    returns)

@@ -5,7 +5,7 @@ use mathlib.Core.List.{List, []}
 use Prim.Native.Nat.{ℕ, suc, _+_, _-_, _/_, _≤_, _<_, zero}
 use native.Mathlib.Omega.{arith}
 use lib.ListN.{length, drop, length-drop, List·getD-eq-default}
-use Rattle.laws.specs.Tests.{_and_, less}
+use Rattle.laws.specs.Tests.{less}
 use Rattle.laws.specs.Tests.Laws.{split, and-left, and-right, neg-no, less-yes, less-no, less-true, upto-yes}
 use Rattle.laws.specs.Cut.{cut, chunks}
 use Rattle.laws.specs.Cut.Laws.{cut-length}

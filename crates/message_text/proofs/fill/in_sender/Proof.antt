@@ -1,5 +1,5 @@
 -- The code asks the definition's questions in its order.
-use Rattle.laws.specs.Kit.{needs, sym, _∙_}
+use Rattle.laws.specs.Kit.{needs, arith, sym, _∙_}
 use Rattle.paper.specs.Listing.{text}
 use Rattle.message_text.specs.MessageText.{inSender}
 use Rattle.message_text.proofs.fill.in_sender.Statement.{statement}
@@ -27,7 +27,21 @@ returns-3 c =
     let q = p .before in
     let b = q .before .before in
     let a = b .before .before .before in
-    rw (sym (a .before .same .ensures) ∙ a .if1 .left, sym (b .before .same2 .ensures) ∙ b .if2 .left, sym (q .sender-place .ensures .0)) (p .put-text .ensures)
+    rw (sym (a .before .same .ensures) ∙ a .if1 .left, sym (b .before .same2 .ensures) ∙ b .if2 .left, sym (q .sender-field .ensures .0)) (p .put-text .ensures)
 
 pub in-sender-spec : {M : Type 1} → statement M
-in-sender-spec = tie.close (tie.spec (search needs) (search needs) (search needs) (search needs) returns (search needs) (search needs) (search needs) (search needs) returns-2 (search needs) (search needs) (search needs) returns-3)
+in-sender-spec = tie.close (tie.spec
+    (λ c. omega arith)
+    (search needs)
+    (search needs)
+    (search needs)
+    returns
+    (λ c. omega arith)
+    (search needs)
+    (search needs)
+    (search needs)
+    returns-2
+    (search needs)
+    (search needs)
+    (search needs)
+    returns-3)

@@ -1,5 +1,5 @@
 -- The code asks the definition's questions in its order.
-use Rattle.laws.specs.Kit.{needs, sym, _∙_}
+use Rattle.laws.specs.Kit.{needs, arith, sym, _∙_}
 use Rattle.laws.specs.Tests.Laws.{is-equal, is-other}
 use Rattle.paper.specs.Listing.{text}
 use Rattle.message_text.specs.MessageText.{inSeries}
@@ -29,7 +29,7 @@ returns-3 c =
     let q = t .before .before in
     let b = q .before in
     let a = b .before .before .before in
-    rw (sym (a .before .same .ensures) ∙ a .if1 .left, sym (b .before .same2 .ensures) ∙ b .if2 .left, sym (q .series-place .ensures .0), is-equal _ _ (t .if3 .taken)) (p .put-positions .ensures)
+    rw (sym (a .before .same .ensures) ∙ a .if1 .left, sym (b .before .same2 .ensures) ∙ b .if2 .left, sym (q .series-field .ensures .0), is-equal _ _ (t .if3 .taken)) (p .put-positions .ensures)
 
 returns-4 : tie.Need-returns-4
 unfolding inSeries text
@@ -39,7 +39,24 @@ returns-4 c =
     let q = t .before .before in
     let b = q .before in
     let a = b .before .before .before in
-    rw (sym (a .before .same .ensures) ∙ a .if1 .left, sym (b .before .same2 .ensures) ∙ b .if2 .left, sym (q .series-place .ensures .0), is-other _ _ (t .if3 .left)) (p .put-text .ensures)
+    rw (sym (a .before .same .ensures) ∙ a .if1 .left, sym (b .before .same2 .ensures) ∙ b .if2 .left, sym (q .series-field .ensures .0), is-other _ _ (t .if3 .left)) (p .put-text .ensures)
 
 pub in-series-spec : {M : Type 1} → statement M
-in-series-spec = tie.close (tie.spec (search needs) (search needs) (search needs) (search needs) returns (search needs) (search needs) (search needs) (search needs) returns-2 (search needs) (search needs) (search needs) returns-3 (search needs) (search needs) returns-4)
+in-series-spec = tie.close (tie.spec
+    (λ c. omega arith)
+    (search needs)
+    (search needs)
+    (search needs)
+    returns
+    (λ c. omega arith)
+    (search needs)
+    (search needs)
+    (search needs)
+    returns-2
+    (search needs)
+    (search needs)
+    (search needs)
+    returns-3
+    (search needs)
+    (search needs)
+    returns-4)

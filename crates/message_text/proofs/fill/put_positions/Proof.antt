@@ -34,4 +34,16 @@ returns-3 c =
     positions-right _ _ _ (l .before .first-of .ensures) (l .last-of .ensures) (q .quantity-read .ensures) (told (t .before .positions-fine .ensures) (t .if1 .left)) (b .if2 .left) (p .put-quantities .ensures)
 
 pub put-positions-spec : {M : Type 1} → statement M
-put-positions-spec = tie.close (tie.spec (search needs) (search needs) (search needs) (search needs) returns returns-2 sub-put-quantities (search needs) (search needs) put-quantities-requires (search needs) returns-3)
+put-positions-spec = tie.close (tie.spec
+    (search needs)
+    (search needs)
+    (search needs)
+    (search needs)
+    returns
+    returns-2
+    sub-put-quantities
+    (λ c. omega arith)
+    (λ c. omega arith)
+    put-quantities-requires
+    (search needs)
+    returns-3)
