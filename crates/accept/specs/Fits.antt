@@ -10,11 +10,11 @@ use Rattle.paper.specs.Book.{dayBlock, slots, used, isSender, isSeries, isSerie
 use Rattle.paper.specs.Message.{headOf, seriesOf}
 use Rattle.paper.specs.Acceptance.{slotFor, placed}
 
--- us are the used ones of `many` slots, h a message's first block, series its series
-pub record Placing (n many : ℕ) (us : List Block) (h : Block) (series : List Block) : Type 0 where
+-- us are the used ones of `count` slots, h a message's first block, series its series
+pub record Placing (n count : ℕ) (us : List Block) (h : Block) (series : List Block) : Type 0 where
   pub small : n ≤ 100
-  pub few : many ≤ 1000
-  pub room : length (placed us h series) ≤ many
+  pub few : count ≤ 1000
+  pub room : length (placed us h series) ≤ count
   pub head-whole : length h ≡ 512
   pub head-kind : isSender h ≡ true
   pub series-few : length series ≤ 200

@@ -17,15 +17,15 @@ pub record Laid (s : ℕ) (a l r : List Block) (e : ℕ) : Type 0 where
   pub end : e ≡ s + length a
 
 -- the sender's block, if it has no slot yet
-unfoldable pub senderIfNew : ℕ → Block → List Block → List Block
-senderIfNew known h series = cond (is known 0) (senderKept h series ∷ []) []
+unfoldable pub senderIfNew : (had : ℕ) (h : Block) (series : List Block) → List Block
+senderIfNew had h series = cond (is had 0) (senderKept h series ∷ []) []
 
--- y, told its sender's slot, if it has no place among the stored ones
-unfoldable pub addedAt : ℕ → ℕ → Block → List Block
-addedAt slot stored y = cond (is stored 0) (withSendersSlot slot y ∷ []) []
+-- y, told its sender's slot, if it has no place among the used slots
+unfoldable pub addedAt : (slot place : ℕ) (y : Block) → List Block
+addedAt slot place y = cond (is place 0) (withSendersSlot slot y ∷ []) []
 
 -- those of the first k series
-unfoldable pub addedTo : ℕ → List ℕ → List Block → ℕ → List Block
+unfoldable pub addedTo : (slot : ℕ) (places : List ℕ) (series : List Block) (k : ℕ) → List Block
 addedTo slot places series zero = []
 addedTo slot places series (suc k) = addedTo slot places series k ++ addedAt slot (getD places k 0) (getD series k [])
 

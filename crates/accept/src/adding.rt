@@ -11,12 +11,12 @@ use index::wide;
 use paper::Slot;
 use slots::block_at;
 
-// A series that is stored has a place among the stored ones. One that has none, which 0 says, is new and goes to slot `next`, the lowest free one.
-fn add_if_new(slots: &mut [u8], next: usize, y: &[u8], stored: usize, slot: Slot) -> usize
-    requires { ⌜ (length (now y) ≡ 512) × (512 * (next + length (addedAt (slot .0) stored (now y))) ≤ length (now slots)) ⌝ }
-    ensures { λ r. ⌜ Laid next (addedAt (slot .0) stored (now (y .entry))) (cut 512 (now (slots .entry))) (cut 512 (now (slots .exit))) r ⌝ }
+// A series that is stored has a place among the used slots. One that has none, which 0 says, is new and goes behind the `next` blocks, to the lowest free slot.
+fn add_if_new(slots: &mut [u8], next: usize, y: &[u8], place: usize, slot: Slot) -> usize
+    requires { ⌜ (length (now y) ≡ 512) × (512 * (next + length (addedAt (slot .0) place (now y))) ≤ length (now slots)) ⌝ }
+    ensures { λ r. ⌜ Laid next (addedAt (slot .0) place (now (y .entry))) (cut 512 (now (slots .entry))) (cut 512 (now (slots .exit))) r ⌝ }
 {
-    if stored == 0 {
+    if place == 0 {
         let start = 512 * next;
         write_series(&mut slots[start..start + 512], y, slot);
         return next + 1;
@@ -35,43 +35,42 @@ fn add_series(
     requires { ⌜ (length (now series) / 512 ≤ 1000) × (512 * (start + length (addedTo (slot .0) (now places) (cut 512 (now series)) (length (now series) / 512))) ≤ length (now slots)) ⌝ }
     ensures { λ r. ⌜ Laid start (addedTo (slot .0) (now (places .entry)) (cut 512 (now (series .entry))) (length (now (series .entry)) / 512)) (cut 512 (now (slots .entry))) (cut 512 (now (slots .exit))) r ⌝ }
 {
-    let own = slot.0;
-    let many = series.len() / 512;
+    let count = series.len() / 512;
     let mut next = start;
     let mut k = 0;
-    while k < many {
-        next = add_if_new(slots, next, block_at(series, k), wide(places[k]), Slot(own));
+    while k < count {
+        next = add_if_new(slots, next, block_at(series, k), wide(places[k]), slot);
         k += 1;
     }
     next
 }
 
 // "Sender first". The block of a known sender is renewed in its own slot instead.
-fn add_sender(slots: &mut [u8], u: usize, head: &[u8], series: &[u8], known: Slot) -> usize
-    requires { ⌜ (512 * (u + length (senderIfNew (known .0) (now head) (cut 512 (now series)))) ≤ length (now slots)) × (length (now head) ≡ 512) × (length (now series) ≤ 268435456) ⌝ }
-    ensures { λ r. ⌜ Laid u (senderIfNew (known .0) (now (head .entry)) (cut 512 (now (series .entry)))) (cut 512 (now (slots .entry))) (cut 512 (now (slots .exit))) r ⌝ }
+fn add_sender(slots: &mut [u8], used: usize, head: &[u8], series: &[u8], had: Slot) -> usize
+    requires { ⌜ (512 * (used + length (senderIfNew (had .0) (now head) (cut 512 (now series)))) ≤ length (now slots)) × (length (now head) ≡ 512) × (length (now series) ≤ 268435456) ⌝ }
+    ensures { λ r. ⌜ Laid used (senderIfNew (had .0) (now (head .entry)) (cut 512 (now (series .entry)))) (cut 512 (now (slots .entry))) (cut 512 (now (slots .exit))) r ⌝ }
 {
-    if known.0 == 0 {
-        let start = 512 * u;
+    if had.0 == 0 {
+        let start = 512 * used;
         write_sender(&mut slots[start..start + 512], head, series);
-        return u + 1;
+        return used + 1;
     }
-    u
+    used
 }
 
-// Behind the u used slots.
+// Behind the used slots. `had` is the slot that the sender has, 0 where it has none, and `slot` the one that it has from now on.
 pub fn add_blocks(
     slots: &mut [u8],
-    u: usize,
+    used: usize,
     head: &[u8],
     series: &[u8],
-    known: Slot,
+    had: Slot,
     slot: Slot,
     places: &[u16; 1000],
 ) -> usize
-    requires { ⌜ (512 * (u + length (senderIfNew (known .0) (now head) (cut 512 (now series)) ++ addedTo (slot .0) (now places) (cut 512 (now series)) (length (now series) / 512))) ≤ length (now slots)) × (length (now head) ≡ 512) × (length (now series) / 512 ≤ 1000) ⌝ }
-    ensures { λ r. ⌜ (Laid u (senderIfNew (known .0) (now (head .entry)) (cut 512 (now (series .entry))) ++ addedTo (slot .0) (now (places .entry)) (cut 512 (now (series .entry))) (length (now (series .entry)) / 512)) (cut 512 (now (slots .entry))) (cut 512 (now (slots .exit))) r) × (512 * r ≤ length (now (slots .entry))) ⌝ }
+    requires { ⌜ (512 * (used + length (senderIfNew (had .0) (now head) (cut 512 (now series)) ++ addedTo (slot .0) (now places) (cut 512 (now series)) (length (now series) / 512))) ≤ length (now slots)) × (length (now head) ≡ 512) × (length (now series) / 512 ≤ 1000) ⌝ }
+    ensures { λ r. ⌜ (Laid used (senderIfNew (had .0) (now (head .entry)) (cut 512 (now (series .entry))) ++ addedTo (slot .0) (now (places .entry)) (cut 512 (now (series .entry))) (length (now (series .entry)) / 512)) (cut 512 (now (slots .entry))) (cut 512 (now (slots .exit))) r) × (512 * r ≤ length (now (slots .entry))) ⌝ }
 {
-    let start = add_sender(slots, u, head, series, known);
+    let start = add_sender(slots, used, head, series, had);
     add_series(slots, start, series, slot, places)
 }

@@ -23,36 +23,42 @@ pub mod adding;
 pub mod remarking;
 pub mod renewal;
 
-// The slot of a sender: the known one, or the lowest free behind the u used.
-fn slot_for(known: usize, u: usize) -> usize
-    requires { ⌜ u ≤ 1000 ⌝ }
-    ensures { λ r. ⌜ r ≡ cond (is known 0) (u + 1) known ⌝ }
-{
-    if known == 0 { u + 1 } else { known }
+// How a book stands to a sender before its message is written: n of its day, how many slots are used, and the sender's slot, 0 where it has none.
+pub struct Standing {
+    pub n: usize,
+    pub used: usize,
+    pub slot: usize,
 }
 
-// Over a book's slots, of which u are used. `known` is the slot of the sender, 0 where it has none; `places` says where its series stand among the
-// used, `numbers` which series of the message has the pair of each used block.
+// The slot that a sender has, or the lowest free behind the used.
+fn slot_for(had: usize, used: usize) -> usize
+    requires { ⌜ used ≤ 1000 ⌝ }
+    ensures { λ r. ⌜ r ≡ cond (is had 0) (used + 1) had ⌝ }
+{
+    if had == 0 { used + 1 } else { had }
+}
+
+// Over a book's slots. `places` says where the series of the message stand among the used, `numbers` which series of the message has the pair of
+// each used block.
 fn accept_into(
     slots: &mut [u8],
     head: &[u8],
     series: &[u8],
-    n: usize,
-    u: usize,
-    known: Slot,
+    standing: Standing,
     places: &[u16; 1000],
     numbers: &[u16; 1000],
 )
-    requires { ⌜ Placing n (length (cut 512 (now slots))) (until isFree (cut 512 (now slots))) (now head) (cut 512 (now series)) × Handed (until isFree (cut 512 (now slots))) (now head) (cut 512 (now series)) u (known .0) (now places) (now numbers) ⌝ }
-    ensures { λ _. ⌜ cut 512 (now (slots .exit)) ≡ over (usedAfter n (until isFree (cut 512 (now (slots .entry)))) (now (head .entry)) (cut 512 (now (series .entry)))) (cut 512 (now (slots .entry))) ⌝ }
+    requires { ⌜ Placing (standing .n) (length (cut 512 (now slots))) (until isFree (cut 512 (now slots))) (now head) (cut 512 (now series)) × Handed (until isFree (cut 512 (now slots))) (now head) (cut 512 (now series)) (standing .used) (standing .slot) (now places) (now numbers) ⌝ }
+    ensures { λ _. ⌜ cut 512 (now (slots .exit)) ≡ over (usedAfter (standing .n) (until isFree (cut 512 (now (slots .entry)))) (now (head .entry)) (cut 512 (now (series .entry)))) (cut 512 (now (slots .entry))) ⌝ }
 {
-    let stored = known.0;
-    let used_end = 512 * u;
-    let slot = slot_for(stored, u);
-    let next = add_blocks(slots, u, head, series, Slot(stored), Slot(slot), places);
+    let had = standing.slot;
+    let used = standing.used;
+    let used_end = 512 * used;
+    let slot = slot_for(had, used);
+    let next = add_blocks(slots, used, head, series, Slot(had), Slot(slot), places);
     renew_all(&mut slots[..used_end], head, series, Slot(slot), numbers);
     let end = 512 * next;
-    remark_all(&mut slots[..end], n, Slot(slot), numbers);
+    remark_all(&mut slots[..end], standing.n, Slot(slot), numbers);
 }
 
 // Called where the verdict is 0, which gives `Fits`: so nothing is written before rules 16 and 17 are passed. What the judgement has found is handed
@@ -60,22 +66,24 @@ fn accept_into(
 pub fn accept(
     book: &mut [u8],
     message: &[u8],
-    many: usize,
-    known: Slot,
+    used_count: usize,
+    slot: Slot,
     places: &[u16; 1000],
     numbers: &[u16; 1000],
 )
-    requires { ⌜ Fits (now book) (now message) × Handed (used (now book)) (headOf (now message)) (seriesOf (now message)) many (known .0) (now places) (now numbers) ⌝ }
+    requires { ⌜ Fits (now book) (now message) × Handed (used (now book)) (headOf (now message)) (seriesOf (now message)) «used_count» (slot .0) (now places) (now numbers) ⌝ }
     ensures { λ _. ⌜ now (book .exit) ≡ accepted (now (book .entry)) (now (message .entry)) ⌝ }
 {
-    let n = n_of(book) as usize;
+    let standing = Standing {
+        n: n_of(book) as usize,
+        used: used_count,
+        slot: slot.0,
+    };
     accept_into(
         &mut book[512..],
         &message[..512],
         &message[512..],
-        n,
-        many,
-        known,
+        standing,
         places,
         numbers,
     );

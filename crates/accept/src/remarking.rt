@@ -64,11 +64,10 @@ fn remark_each(
     requires { ⌜ (n ≤ 100) × (length (now us) / 512 ≤ 1000) × Others (slot .0) (cut 512 (now us)) (now numbers) × Links seriesIn (cut 512 (now us)) 0 (now heads) (now nexts) ⌝ }
     ensures { λ _. ⌜ cut 512 (now (us .exit)) ≡ map (remarked n (slot .0) (cut 512 (now (us .entry)))) (cut 512 (now (us .entry))) ⌝ }
 {
-    let own = slot.0;
-    let many = us.len() / 512;
+    let blocks = us.len() / 512;
     let mut i = 0;
-    while i < many {
-        remark(us, i, n, Slot(own), wide(numbers[i]), heads, nexts);
+    while i < blocks {
+        remark(us, i, n, slot, wide(numbers[i]), heads, nexts);
         i += 1;
     }
 }

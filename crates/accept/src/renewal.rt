@@ -42,16 +42,15 @@ fn renew(block: &mut [u8], head: &[u8], series: &[u8], slot: Slot, number: usize
     requires { ⌜ (length (now block) ≡ 512) × (length (now head) ≡ 512) × (length (now series) ≤ 268435456) × (number ≡ place (pairIs (pair (now block))) (cut 512 (now series))) ⌝ }
     ensures { λ _. ⌜ now (block .exit) ≡ renewed (slot .0) (now (head .entry)) (cut 512 (now (series .entry))) (now (block .entry)) ⌝ }
 {
-    let own = slot.0;
     if is_sender_block_of(block, sender(head)) {
         write_sender(block, head, series);
         return;
     }
-    if is_series_of(block, Slot(own)) {
+    if is_series_of(block, slot) {
         if number == 0 {
             return;
         }
-        write_series(block, block_at(series, number - 1), Slot(own));
+        write_series(block, block_at(series, number - 1), slot);
         return;
     }
 }
@@ -61,13 +60,12 @@ pub fn renew_all(us: &mut [u8], head: &[u8], series: &[u8], slot: Slot, numbers:
     requires { ⌜ (length (now us) / 512 ≤ 1000) × (length (now head) ≡ 512) × (length (now series) ≤ 268435456) × Numbers (cut 512 (now us)) (cut 512 (now series)) (now numbers) ⌝ }
     ensures { λ _. ⌜ cut 512 (now (us .exit)) ≡ map (renewed (slot .0) (now (head .entry)) (cut 512 (now (series .entry)))) (cut 512 (now (us .entry))) ⌝ }
 {
-    let own = slot.0;
-    let many = us.len() / 512;
+    let blocks = us.len() / 512;
     let mut i = 0;
-    while i < many {
+    while i < blocks {
         let number = wide(numbers[i]);
         let start = 512 * i;
-        renew(&mut us[start..start + 512], head, series, Slot(own), number);
+        renew(&mut us[start..start + 512], head, series, slot, number);
         i += 1;
     }
 }

@@ -5,7 +5,7 @@ use Prim.Native.Nat.{ℕ, _+_, _≤_, _<_}
 use native.Mathlib.Omega.{arith}
 use lib.ListN.{length, take, set, length-append}
 use lib.Seq.{length-take-le}
-use Rattle.laws.specs.InPlace.{over, over-none, over-more, over-take, over-front, over-over}
+use Rattle.laws.specs.InPlace.{over, over-none, over-more, over-take, over-over}
 use Rattle.paper.specs.Layout.{Block}
 use Rattle.accept.specs.Steps.{Laid}
 
@@ -30,6 +30,3 @@ module _ (s : ℕ) (l : List Block) where
           j .list ∙ ap₂ (λ x y. over (x ++ b) y) t (i .list) ∙ over-over (take s l ++ a) b l ∙ ap (λ x. over x l) (append-assoc (take s l) a b);
       end = let n : e ≡ s + length a = i .end in let m : f ≡ e + length b = j .end in omega (arith, length-append a b);
     }
-
-    pub laid-front : (u : ℕ) → u ≤ s → take u r ≡ take u l
-    laid-front u g = ap (take u) (i .list) ∙ over-front l a s u h g

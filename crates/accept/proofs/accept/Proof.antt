@@ -1,5 +1,5 @@
 -- The day block stays, the slots come back as the acceptance leaves them, and nothing stands behind them.
-use Rattle.laws.specs.Kit.{needs, arith}
+use Rattle.laws.specs.Kit.{arith}
 use denote.Ref.{now}
 use Rattle.accept.proofs.Laws.Whole.{head-lent, lent-placing, lent-handed, lent-accepted}
 use Rattle.accept.proofs.accept.Statement.{statement}
@@ -47,5 +47,5 @@ accept-spec =
     series-part
     (λ c. omega arith)
     accept-into-requires
-    (search needs)
+    (λ c. omega arith)
     returns)

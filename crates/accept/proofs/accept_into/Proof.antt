@@ -1,5 +1,5 @@
 -- The phases put together are what the definition says; each part of the slots that is lent comes back as its phase leaves it.
-use Rattle.laws.specs.Kit.{needs, arith, sym, _∙_, _*_}
+use Rattle.laws.specs.Kit.{arith, sym, _∙_, _*_}
 use denote.Ref.{now}
 use lib.Seq.{length-take-le}
 use Rattle.laws.specs.Cut.Laws.{cut-length}
@@ -37,7 +37,7 @@ renew-all-requires c κs =
     let t = b .before .before in
     let a = t .before .before .before .before in
     let s = series-short _ (now (a .args .slots)) _ (now (a .args .series)) (a .pre .0) _ _ _ _ (a .pre .1) in (
-      omega (arith, length-take-le (512 * a .args .u) (b .add-blocks .last .0) (renewed-end (c .before)), used-fits _ (now (a .args .slots)) _ (now (a .args .series)) (a .pre .0) _ _ _ _ (a .pre .1) .1),
+      omega (arith, length-take-le (512 * a .args .standing .used) (b .add-blocks .last .0) (renewed-end (c .before)), used-fits _ (now (a .args .slots)) _ (now (a .args .series)) (a .pre .0) _ _ _ _ (a .pre .1) .1),
       a .pre .0 .head-whole,
       omega (arith, s),
       renew-numbers _ (now (a .args .slots)) _ (now (a .args .series)) (a .pre .0) _ _ _ _ (a .pre .1) _ (t .slot-for .ensures) (b .add-blocks .last .0) (b .add-blocks .kept .0) _ (b .add-blocks .ensures .0),
@@ -56,7 +56,7 @@ marked-end c =
     let b = p .before .before .before in
     let a = b .before .before .before .before .before .before in
     let k = b .add-blocks .kept .0 in
-    omega (arith, b .add-blocks .ensures .1, back-length (r .renew-all .last .0) (b .add-blocks .last .0) (512 * a .args .u) (renewed-end (p .before)) (r .renew-all .kept .0))
+    omega (arith, b .add-blocks .ensures .1, back-length (r .renew-all .last .0) (b .add-blocks .last .0) (512 * a .args .standing .used) (renewed-end (p .before)) (r .renew-all .kept .0))
 
 marked-part : tie.Need-slice-aggregate-remark-all
 marked-part c = sym (length-take-le _ _ (marked-end (c .before)))
@@ -100,5 +100,5 @@ accept-into-spec =
     marked-end
     marked-part
     remark-all-requires
-    (search needs)
+    (λ c. omega arith)
     returns)

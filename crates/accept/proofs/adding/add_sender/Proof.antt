@@ -1,5 +1,5 @@
 -- A sender that has no slot yet gets the lowest free one; for one that has its slot nothing is written.
-use Rattle.laws.specs.Kit.{needs, arith, ap, length}
+use Rattle.laws.specs.Kit.{arith, ap, length}
 use denote.Ref.{now}
 use Rattle.laws.specs.Cut.{cut}
 use Rattle.laws.specs.Cut.Laws.{cut-length}
@@ -14,7 +14,7 @@ part-end : tie.Need-part-write-sender-end
 part-end c =
     let t = c in
     let a = t .before .before .before .before .before in
-    omega (arith, ap length (sender-new (a .args .known .0) (now (a .args .head)) (cut 512 (now (a .args .series))) (t .if1 .taken)))
+    omega (arith, ap length (sender-new (a .args .had .0) (now (a .args .head)) (cut 512 (now (a .args .series))) (t .if1 .taken)))
 
 new : tie.Need-returns
 new c =
@@ -22,16 +22,16 @@ new c =
     let t = w .before .before in
     let a = t .before .before .before .before .before in
     let y = senderKept (now (a .args .head)) (cut 512 (now (a .args .series))) in
-    let e = sender-new (a .args .known .0) (now (a .args .head)) (cut 512 (now (a .args .series))) (t .if1 .taken) in
+    let e = sender-new (a .args .had .0) (now (a .args .head)) (cut 512 (now (a .args .series))) (t .if1 .taken) in
     rw e
-    (laid-one (a .args .u) (cut 512 (now (a .args .slots))) y (omega (arith, ap length e, cut-length 512 (now (a .args .slots))))
-    (cut-lent (λ x. y) (now (a .args .slots)) (a .args .u) (omega (arith, ap length e)) (w .write-sender .ensures) (omega arith)))
+    (laid-one (a .args .used) (cut 512 (now (a .args .slots))) y (omega (arith, ap length e, cut-length 512 (now (a .args .slots))))
+    (cut-lent (λ x. y) (now (a .args .slots)) (a .args .used) (omega (arith, ap length e)) (w .write-sender .ensures) (omega arith)))
 
 known : tie.Need-returns-2
 known c =
     let a = c .before .before .before .before .before in
-    rw (sender-known (a .args .known .0) (now (a .args .head)) (cut 512 (now (a .args .series))) (c .if1 .left))
-    (laid-none (a .args .u) (cut 512 (now (a .args .slots))) (omega (arith, cut-length 512 (now (a .args .slots)))))
+    rw (sender-known (a .args .had .0) (now (a .args .head)) (cut 512 (now (a .args .series))) (c .if1 .left))
+    (laid-none (a .args .used) (cut 512 (now (a .args .slots))) (omega (arith, cut-length 512 (now (a .args .slots)))))
 
 pub add-sender-spec : {M : Type 1} → statement M
 add-sender-spec =
@@ -44,6 +44,6 @@ add-sender-spec =
     part-end
     (λ c. omega arith)
     (λ c. omega arith)
-    (search needs)
+    (λ c. omega arith)
     new
     known)

@@ -1,5 +1,5 @@
 -- The new ones among the series before k are laid from `start` on.
-use Rattle.laws.specs.Kit.{needs, arith, ap, _∙_, _≡_, _≤_, _-_, _/_, length}
+use Rattle.laws.specs.Kit.{arith, ap, _∙_, _≡_, _≤_, _-_, _/_, length}
 use denote.Ref.{now}
 use Rattle.laws.specs.Cut.{cut}
 use Rattle.laws.specs.Cut.Laws.{cut-length}
@@ -11,17 +11,17 @@ use Rattle.accept.proofs.adding.add_series.Statement.{statement}
 use Rattle.accept.proofs.adding.add_series.Tie as tie
 
 abbrev Inv-loop : tie.InvT-loop
-Inv-loop slots₀ start series places own many next₀ k₀ slots next k =
-    (k ≤ many) × (many ≡ length series / 512) × (length slots ≡ length slots₀) × Laid start (addedTo own places (cut 512 series) k) (cut 512 slots₀) (cut 512 slots) next
+Inv-loop slots₀ start series slot places count next₀ k₀ slots next k =
+    (k ≤ count) × (count ≡ length series / 512) × (length slots ≡ length slots₀) × Laid start (addedTo (slot .0) places (cut 512 series) k) (cut 512 slots₀) (cut 512 slots) next
 
 abbrev μ-loop : tie.MeasureT-loop
-μ-loop slots₀ start series places own many next₀ k₀ slots next k = many - k
+μ-loop slots₀ start series slot places count next₀ k₀ slots next k = count - k
 
 loop-holds : tie.Need-loop-holds Inv-loop μ-loop
 unfolding addedTo
 loop-holds c =
     let a = c .before .before in
-    (search needs, search needs, search needs, laid-none (a .args .start) (cut 512 (now (a .args .slots))) (omega (arith, cut-length 512 (now (a .args .slots)))))
+    (omega arith, omega arith, omega arith, laid-none (a .args .start) (cut 512 (now (a .args .slots))) (omega (arith, cut-length 512 (now (a .args .slots)))))
 
 add-if-new-requires : tie.Need-add-if-new-requires Inv-loop μ-loop
 add-if-new-requires c κs =
@@ -66,5 +66,5 @@ add-series-spec =
     (λ c. omega arith)
     (λ c. omega arith)
     loop-again
-    (search needs)
+    (λ c. omega arith)
     returns)

@@ -1,6 +1,6 @@
 -- The blocks before i are marked anew, and every mark is worked out as from the blocks as they came: it reads nothing that a mark changes, and nor
 -- do the links.
-use Rattle.laws.specs.Kit.{needs, arith, _≡_, _∙_, _≤_, _-_, _/_, [], length}
+use Rattle.laws.specs.Kit.{arith, _≡_, _∙_, _≤_, _-_, _/_, [], length}
 use denote.Ref.{now}
 use Rattle.laws.specs.Cut.{cut}
 use Rattle.laws.specs.Cut.Laws.{cut-length}
@@ -11,13 +11,13 @@ use Rattle.accept.proofs.remarking.remark_each.Statement.{statement}
 use Rattle.accept.proofs.remarking.remark_each.Tie as tie
 
 abbrev Inv-loop : tie.InvT-loop
-Inv-loop us₀ n numbers heads nexts own many i₀ us i = (i ≤ many) × (many ≡ length us₀ / 512) × (length us ≡ length us₀) × (cut 512 us ≡ done (remarked n own) (cut 512 us₀) i)
+Inv-loop us₀ n slot numbers heads nexts blocks i₀ us i = (i ≤ blocks) × (blocks ≡ length us₀ / 512) × (length us ≡ length us₀) × (cut 512 us ≡ done (remarked n (slot .0)) (cut 512 us₀) i)
 
 abbrev μ-loop : tie.MeasureT-loop
-μ-loop us₀ n numbers heads nexts own many i₀ us i = many - i
+μ-loop us₀ n slot numbers heads nexts blocks i₀ us i = blocks - i
 
 loop-holds : tie.Need-loop-holds Inv-loop μ-loop
-loop-holds c = (search needs, search needs, search needs, done-none _ _)
+loop-holds c = (omega arith, omega arith, omega arith, done-none _ _)
 
 remark-requires : tie.Need-remark-requires Inv-loop μ-loop
 remark-requires c κs =
@@ -57,5 +57,5 @@ remark-each-spec =
     (λ c. omega arith)
     (λ c. omega arith)
     loop-again
-    (search needs)
+    (λ c. omega arith)
     returns)

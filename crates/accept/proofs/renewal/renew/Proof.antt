@@ -1,5 +1,5 @@
 -- The tests are the definition's, in its order; the message's series of the block's pair is the first that has it.
-use Rattle.laws.specs.Kit.{needs, arith, sym, ap, _∙_, _-_}
+use Rattle.laws.specs.Kit.{arith, sym, ap, _∙_, _-_}
 use denote.Ref.{now}
 use lib.ListN.{length}
 use Rattle.laws.specs.Lists.Search.{place-within}
@@ -15,7 +15,7 @@ the-sender : tie.Need-returns
 the-sender c =
     let w = c .before .before in
     let t = w .before .before in
-    w .write-sender .ensures ∙ renewed-sender _ _ _ _ (t .if1 .taken) (cc)
+    w .write-sender .ensures ∙ renewed-sender _ _ _ _ (t .if1 .taken) (rw (t .before .before .sender .ensures) at (t .before .is-sender-block-of .ensures))
 
 absent : tie.Need-returns-2
 absent c =
@@ -23,7 +23,7 @@ absent c =
     let s = u .before in
     let t = s .before .before in
     let a = t .before .before .before .before .before .before .before in
-    renewed-absent _ _ _ _ (t .if1 .left) (cc) (u .if2 .taken) (s .is-series-of .ensures) _ (a .pre .3) (c .if3 .taken)
+    renewed-absent _ _ _ _ (t .if1 .left) (rw (t .before .before .sender .ensures) at (t .before .is-sender-block-of .ensures)) (u .if2 .taken) (s .is-series-of .ensures) _ (a .pre .3) (c .if3 .taken)
 
 write-series-requires : tie.Need-write-series-requires
 write-series-requires c κs =
@@ -42,13 +42,13 @@ a-series c =
     let t = s .before .before in
     let a = t .before .before .before .before .before .before .before in
     w .write-series .ensures ∙ ap (withSendersSlot (a .args .slot .0)) (b .block-at .ensures)
-    ∙ renewed-series _ _ _ _ (t .if1 .left) (cc) (u .if2 .taken) (s .is-series-of .ensures) _ (a .pre .3) (o .if3 .left)
+    ∙ renewed-series _ _ _ _ (t .if1 .left) (rw (t .before .before .sender .ensures) at (t .before .is-sender-block-of .ensures)) (u .if2 .taken) (s .is-series-of .ensures) _ (a .pre .3) (o .if3 .left)
 
 another : tie.Need-returns-4
 another c =
     let s = c .before in
     let t = s .before .before in
-    renewed-other _ _ _ _ (t .if1 .left) (cc) (c .if2 .left) (s .is-series-of .ensures)
+    renewed-other _ _ _ _ (t .if1 .left) (rw (t .before .before .sender .ensures) at (t .before .is-sender-block-of .ensures)) (c .if2 .left) (s .is-series-of .ensures)
 
 pub renew-spec : {M : Type 1} → statement M
 renew-spec =
@@ -57,15 +57,15 @@ renew-spec =
     (λ c κs. tt)
     (λ c κs. tt)
     (λ c. omega arith)
-    (search needs)
+    (λ c. omega arith)
     the-sender
     (λ c κs. tt)
-    (search needs)
+    (λ c. omega arith)
     absent
     (λ c. omega arith)
     (λ c κs. tt)
     write-series-requires
-    (search needs)
+    (λ c. omega arith)
     a-series
-    (search needs)
+    (λ c. omega arith)
     another)

@@ -1,5 +1,5 @@
 -- The blocks before i are renewed; what becomes of a block is told by it alone, and block i, still as it was, has the number found for it.
-use Rattle.laws.specs.Kit.{needs, arith, _≡_, _∙_, _≤_, _-_, _/_, [], length}
+use Rattle.laws.specs.Kit.{arith, _≡_, _∙_, _≤_, _-_, _/_, [], length}
 use denote.Ref.{now}
 use Rattle.laws.specs.Cut.{cut}
 use Rattle.laws.specs.Cut.Laws.{cut-length}
@@ -12,13 +12,13 @@ use Rattle.accept.proofs.renewal.renew_all.Statement.{statement}
 use Rattle.accept.proofs.renewal.renew_all.Tie as tie
 
 abbrev Inv-loop : tie.InvT-loop
-Inv-loop us₀ head series numbers own many i₀ us i = (i ≤ many) × (many ≡ length us₀ / 512) × (length us ≡ length us₀) × (cut 512 us ≡ done (λ l. renewed own head (cut 512 series)) (cut 512 us₀) i)
+Inv-loop us₀ head series slot numbers blocks i₀ us i = (i ≤ blocks) × (blocks ≡ length us₀ / 512) × (length us ≡ length us₀) × (cut 512 us ≡ done (λ l. renewed (slot .0) head (cut 512 series)) (cut 512 us₀) i)
 
 abbrev μ-loop : tie.MeasureT-loop
-μ-loop us₀ head series numbers own many i₀ us i = many - i
+μ-loop us₀ head series slot numbers blocks i₀ us i = blocks - i
 
 loop-holds : tie.Need-loop-holds Inv-loop μ-loop
-loop-holds c = (search needs, search needs, search needs, done-none _ _)
+loop-holds c = (omega arith, omega arith, omega arith, done-none _ _)
 
 renew-requires : tie.Need-renew-requires Inv-loop μ-loop
 renew-requires c κs =
@@ -26,7 +26,7 @@ renew-requires c κs =
     let i = w .before .before .before in
     let a = i .before .before .before .before in
     let f = renewed (a .args .slot .0) (now (a .args .head)) (cut 512 (now (a .args .series))) in (
-      search needs,
+      omega arith,
       a .pre .1,
       a .pre .2,
       number-of f (cut 512 (now (a .args .us))) _ (now (a .args .numbers)) (a .pre .3) (i .loop .i) (omega (arith, cut-length 512 (now (a .args .us)))) (cut 512 (i .loop .us)) (i .loop .inv .3) _ (w .wide .ensures) _
@@ -41,7 +41,7 @@ loop-again c =
     let f = renewed (a .args .slot .0) (now (a .args .head)) (cut 512 (now (a .args .series))) in (
       omega arith,
       i .loop .inv .1,
-      search needs,
+      omega arith,
       done-more-alone f (cut 512 (now (a .args .us))) (i .loop .i) [] (omega (arith, cut-length 512 (now (a .args .us)))) _ _ (i .loop .inv .3)
           (cut-lent f (i .loop .us) (i .loop .i) (omega arith) (m .renew .ensures) (omega arith)),
     )
@@ -71,5 +71,5 @@ renew-all-spec =
     (λ c. omega arith)
     (λ c. omega arith)
     loop-again
-    (search needs)
+    (λ c. omega arith)
     returns)

@@ -1,9 +1,6 @@
 -- A row written over one of its own length is that row, and its nets are written into it.
-use Rattle.laws.specs.Kit.{arith, sym, ap, _∙_}
-use Rattle.laws.specs.Cut.{cut}
+use Rattle.laws.specs.Kit.{arith, sym, _∙_}
 use Rattle.laws.specs.Bytes.Laws.{written-all}
-use Rattle.paper.specs.Layout.{withNets}
-use Rattle.paper.specs.Nets.{netsOf}
 use Rattle.paper.specs.Acceptance.{senderKept}
 use Rattle.accept.proofs.renewal.write_sender.Statement.{statement}
 use Rattle.accept.proofs.renewal.write_sender.Tie as tie

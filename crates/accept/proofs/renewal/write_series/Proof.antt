@@ -1,5 +1,5 @@
 -- A row written over one of its own length is that row.
-use Rattle.laws.specs.Kit.{needs, arith, sym, _∙_, ap}
+use Rattle.laws.specs.Kit.{arith, sym, _∙_, ap}
 use Rattle.laws.specs.Bytes.Laws.{written-all}
 use Rattle.paper.specs.Layout.{withSendersSlot}
 use Rattle.accept.proofs.renewal.write_series.Statement.{statement}
@@ -16,5 +16,5 @@ pub write-series-spec : {M : Type 1} → statement M
 write-series-spec = tie.close (tie.spec
     (λ c. omega arith)
     (λ c. omega arith)
-    (search needs)
+    (λ c. omega arith)
     returns)
