@@ -1,5 +1,5 @@
 -- The test is the definition's, and so are the two answers.
-use Rattle.laws.specs.Kit.{needs, sym}
+use Rattle.laws.specs.Kit.{sym}
 use Rattle.laws.specs.Tests.{_or_, neg, less}
 use Rattle.paper.specs.Clock.{advanced}
 use Rattle.clock.proofs.advanced.Statement.{statement}
@@ -14,4 +14,4 @@ unfolding advanced _or_ neg less
 moved c = rw (sym (c .before .clock-allowed .ensures), c .if1 .left)
 
 pub advanced-spec : {M : Type 1} → statement M
-advanced-spec = tie.close (tie.spec (λ c κs. search needs) refused moved)
+advanced-spec = tie.close (tie.spec (λ c κs. tt) refused moved)

@@ -1,5 +1,5 @@
 -- Past soundness the answer is the state's own; the clock is written only where that is 0, and over the day block alone.
-use Rattle.laws.specs.Kit.{needs, sym, told, denied}
+use Rattle.laws.specs.Kit.{arith, sym, told, denied}
 use lib.Seq.{length-take-le}
 use denote.Ref.{now}
 use Rattle.clock.proofs.Laws.{book-long, clock-unsound, clock-refused, clock-moved}
@@ -36,4 +36,4 @@ moved c =
     clock-moved _ _ (told (ok .before .sound .ensures) (ok .if1 .left)) (d .part-of .ensures) (s .day-state .ensures) (a .advanced .ensures) (w .before .before .if2 .left) (w .write-clock .ensures)
 
 pub clock-spec : {M : Type 1} → statement M
-clock-spec = tie.close (tie.spec (λ c κs. search needs) (λ c. search needs) unsound (λ c κs. search needs) (λ c κs. search needs) (λ c κs. search needs) (λ c. search needs) refused long first (λ c κs. search needs) (λ c. search needs) moved)
+clock-spec = tie.close (tie.spec (λ c κs. tt) (λ c. omega arith) unsound (λ c κs. tt) (λ c κs. tt) (λ c κs. tt) (λ c. omega arith) refused long first (λ c κs. tt) (λ c. omega arith) moved)

@@ -1,5 +1,5 @@
 -- The tests are the definition's, in its order; past them the book is written anew.
-use Rattle.laws.specs.Kit.{needs, told, denied}
+use Rattle.laws.specs.Kit.{arith, told, denied}
 use Rattle.opening.proofs.Laws.Judged.{sized-allowed}
 use Rattle.opening.proofs.Laws.Opened.{book-long, refused-20, refused-21, opened-0}
 use Rattle.opening.proofs.open.Statement.{statement}
@@ -27,4 +27,4 @@ done c =
     opened-0 _ _ (told (past-20 .before .whole-blocks .ensures) (past-20 .if1 .left)) (told (past-21 .before .opening-allowed .ensures) (past-21 .if2 .left)) (written .write-opened .ensures)
 
 pub open-spec : {M : Type 1} → statement M
-open-spec = tie.close (tie.spec (λ c κs. search needs) (λ c. search needs) no-20 (λ c κs. search needs) (λ c. search needs) no-21 fits (λ c. search needs) done)
+open-spec = tie.close (tie.spec (λ c κs. tt) (λ c. omega arith) no-20 (λ c κs. tt) (λ c. omega arith) no-21 fits (λ c. omega arith) done)

@@ -1,5 +1,5 @@
 -- A block made of the parameters holds them in its fields, so that it is sound exactly when each passes its own test.
-use Rattle.laws.specs.Kit.{needs, arith, sym}
+use Rattle.laws.specs.Kit.{arith, sym}
 use denote.Ref.{now}
 use Rattle.laws.specs.Tests.{_and_}
 use Rattle.paper.specs.Opening.{Opening}
@@ -12,7 +12,10 @@ unfolding _and_
 returns c =
     let a = c .before .before .before .before .before .before .before .before .before .before .before .args in
     let o : Opening = record { n = a .n; lead = a .lead; day = now (a .day); area = now (a .area); receiver = now (a .receiver) } in
-    rw (sym (opening-tested o (omega arith))) (cc)
+    let h = sym (opening-tested o (omega arith)) in
+    let area = c .before .before in
+    let day = area .before .before in
+    rw h (simp (c .eic-valid-with2 .ensures, area .eic-valid-with .ensures, day .day-well-formed .ensures, day .before .lead-allowed .ensures, day .before .before .n-allowed .ensures))
 
 pub opening-allowed-spec : {M : Type 1} → statement M
-opening-allowed-spec = tie.close (tie.spec (λ c κs. search needs) (λ c κs. search needs) (λ c κs. search needs) (λ c κs. search needs) (λ c κs. search needs) (λ c κs. search needs) returns)
+opening-allowed-spec = tie.close (tie.spec (λ c κs. tt) (λ c κs. tt) (λ c κs. tt) (λ c κs. tt) (λ c κs. c .before .before .before .before .values .ensures) (λ c κs. c .before .before .before .before .before .before .values .ensures) returns)

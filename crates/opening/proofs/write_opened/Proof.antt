@@ -1,5 +1,5 @@
 -- The first block of a zeroed book is what the day block is written into; the others stay zero.
-use Rattle.laws.specs.Kit.{needs, sym, ap, _≤_, length}
+use Rattle.laws.specs.Kit.{arith, sym, ap, _≤_, length}
 use lib.Seq.{length-take-le}
 use denote.Ref.{now}
 use Rattle.opening.proofs.Laws.Opened.{zeros-front, opened-zeros}
@@ -21,7 +21,7 @@ returns c =
     opened-zeros (now (start .args .book)) (start .pre .0) (zero .zero .ensures) (day .write-day-block .ensures)
 
 first : tie.Need-slice-aggregate-write-day-block
-first c = let zero = c .before .before .before .zero in let h : 512 ≤ length (zero .last .0) = search needs in sym (length-take-le 512 (zero .last .0) h)
+first c = let zero = c .before .before .before .zero in let h : 512 ≤ length (zero .last .0) = omega arith in sym (length-take-le 512 (zero .last .0) h)
 
 pub write-opened-spec : {M : Type 1} → statement M
-write-opened-spec = tie.close (tie.spec (λ c κs. search needs) (λ c. search needs) first zeroed (λ c. search needs) returns)
+write-opened-spec = tie.close (tie.spec (λ c κs. tt) (λ c. omega arith) first zeroed (λ c. omega arith) returns)

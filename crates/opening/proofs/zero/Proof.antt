@@ -1,5 +1,5 @@
 -- The bytes passed by are 0, and those are in the end all there are.
-use Rattle.laws.specs.Kit.{needs, arith, _≡_, refl, _≤_, _-_, length, take}
+use Rattle.laws.specs.Kit.{arith, _≡_, refl, _≤_, _-_, length, take}
 use lib.ListN.{replicate, length-set}
 use Rattle.laws.specs.Bytes.Laws.{zero-more, zero-end}
 use Rattle.opening.proofs.zero.Statement.{statement}
@@ -21,9 +21,9 @@ zero-spec =
     Inv-loop
     μ-loop
     (λ c. (omega arith, refl, refl))
-    (search needs)
-    (search needs)
-    (search needs)
+    (λ c. omega arith)
+    (λ c. omega arith)
+    (λ c. omega arith)
     again
-    (search needs)
+    (λ c. omega arith)
     (λ c. let e : c .before .loop .i ≡ length (c .before .before .args .s .now) = omega arith in zero-end _ _ _ e (c .loop-test .left) (c .before .loop .inv .2)))
