@@ -1,5 +1,4 @@
 -- The three tests are joined as the definition joins them.
-use Rattle.laws.specs.Kit.{arith}
 use Rattle.laws.specs.Tests.{_or_}
 use Rattle.paper.specs.Ids.{idCharacter}
 use Rattle.field.proofs.id_character.Statement.{statement}

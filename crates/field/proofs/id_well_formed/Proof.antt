@@ -24,12 +24,5 @@ returns c =
 pub id-well-formed-spec : {M : Type 1} → statement M
 id-well-formed-spec =
     tie.close
-    (tie.spec
-    (λ c κs. tt)
-    (λ c. sym (length-take-le _ _ (c .before .length-before .ensures .1)))
-    (λ c κs. tt)
-    (λ c. omega arith)
-    (λ c. omega arith)
-    (λ c. omega arith)
-    (λ c κs. tt)
-    returns)
+    (tie.spec (λ c κs. tt) (λ c. sym (length-take-le _ _ (c .before .length-before .ensures .1))) (λ c κs. tt) (λ c. omega arith) (λ c. omega arith)
+    (λ c. omega arith) (λ c κs. tt) returns)

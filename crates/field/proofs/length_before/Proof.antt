@@ -16,13 +16,8 @@ abbrev μ-loop : tie.MeasureT-loop
 pub length-before-spec : {M : Type 1} → statement M
 length-before-spec =
     tie.close
-    (tie.spec
-    Inv-loop
-    μ-loop
-    (λ c. (omega arith, until-rest-start _ _))
-    (search needs)
+    (tie.spec Inv-loop μ-loop (λ c. (omega arith, until-rest-start _ _)) (search needs)
     (λ c. let turn = c .before .before in (until-rest-hit _ (turn .before .loop .inv .1) (step-byte _ _ (turn .loop-test .taken)) (is-equal _ _ (c .if1 .taken)), omega arith))
-    (λ c. omega arith)
-    (λ c. omega arith)
+    (λ c. omega arith) (λ c. omega arith)
     (λ c. let turn = c .before .before in (omega arith, until-rest-go _ (turn .before .loop .inv .1) (step-byte _ _ (turn .loop-test .taken)) (is-other _ _ (c .if1 .left))))
     (λ c. (until-rest-end _ (c .before .loop .inv .1) (end-list _ _ (c .loop-test .left)), omega arith)))

@@ -1,5 +1,5 @@
 -- What stands before the first x is the front of the bytes, as long as was counted.
-use Rattle.laws.specs.Kit.{arith, _∙_}
+use Rattle.laws.specs.Kit.{_∙_}
 use Rattle.laws.specs.Lists.Keep.{until-take}
 use Rattle.laws.specs.Bytes.{part}
 use Rattle.field.proofs.part_before.Statement.{statement}

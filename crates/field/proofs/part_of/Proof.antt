@@ -12,16 +12,6 @@ whole c = rw add-sub-cancel-left
 pub part-of-spec : {M : Type 1} → statement M
 part-of-spec =
     tie.close
-    (tie.spec
-    (λ c. omega arith)
-    (λ c. sym (part-past _ _ _ (c .before .if1 .taken)))
-    (λ c. omega arith)
-    (λ c. omega arith)
-    (λ c. omega arith)
-    (λ c. omega arith)
-    (λ c. part-slice-short _ _ _ (c .before .if2 .taken))
-    (λ c. omega arith)
-    (λ c. omega arith)
-    (λ c. omega arith)
-    (λ c. omega arith)
-    whole)
+    (tie.spec (λ c. omega arith) (λ c. sym (part-past _ _ _ (c .before .if1 .taken))) (λ c. omega arith) (λ c. omega arith) (λ c. omega arith)
+    (λ c. omega arith) (λ c. part-slice-short _ _ _ (c .before .if2 .taken)) (λ c. omega arith) (λ c. omega arith) (λ c. omega arith)
+    (λ c. omega arith) whole)

@@ -37,30 +37,8 @@ rest c =
 pub same-spec : {M : Type 1} → statement M
 same-spec =
     tie.close
-    (tie.spec
-    Inv-loop
-    μ-loop
-    (λ c. sym (same-length-other _ _ (c .if1 .taken)))
-    (search needs)
-    (λ c. omega arith)
-    (λ c. omega arith)
-    (λ c. omega arith)
-    (λ c. omega arith)
-    (λ c. omega arith)
-    (λ c. omega arith)
-    (λ c. omega arith)
-    (λ c. omega arith)
-    (λ c. omega arith)
-    (λ c κs. simp (length-take, length-drop, c .before .before .before .before .if1 .left))
-    differ
-    (λ c. omega arith)
-    (λ c. omega arith)
-    agree
-    (λ c. omega arith)
-    (λ c. omega arith)
-    (λ c. omega arith)
-    (λ c. omega arith)
-    (λ c. omega arith)
-    (λ c. omega arith)
-    (λ c κs. simp (length-take, length-drop, c .before .before .before .before .if1 .left))
-    rest)
+    (tie.spec Inv-loop μ-loop (λ c. sym (same-length-other _ _ (c .if1 .taken))) (search needs) (λ c. omega arith) (λ c. omega arith)
+    (λ c. omega arith) (λ c. omega arith) (λ c. omega arith) (λ c. omega arith) (λ c. omega arith) (λ c. omega arith) (λ c. omega arith)
+    (λ c κs. simp (length-take, length-drop, c .before .before .before .before .if1 .left)) differ (λ c. omega arith) (λ c. omega arith) agree
+    (λ c. omega arith) (λ c. omega arith) (λ c. omega arith) (λ c. omega arith) (λ c. omega arith) (λ c. omega arith)
+    (λ c κs. simp (length-take, length-drop, c .before .before .before .before .if1 .left)) rest)

@@ -20,13 +20,5 @@ more c =
 pub same-bytes-spec : {M : Type 1} → statement M
 same-bytes-spec =
     tie.close
-    (tie.spec
-    Inv-loop
-    μ-loop
-    (λ c. (omega arith, omega arith, same-start _ _))
-    (search needs)
-    (search needs)
-    (λ c. omega arith)
-    (λ c. omega arith)
-    more
-    (λ c. same-end _ (c .before .loop .inv .2) (end-list _ _ (c .loop-test .left)) (end-list _ _ (omega arith))))
+    (tie.spec Inv-loop μ-loop (λ c. (omega arith, omega arith, same-start _ _)) (search needs) (search needs) (λ c. omega arith) (λ c. omega arith)
+    more (λ c. same-end _ (c .before .loop .inv .2) (end-list _ _ (c .loop-test .left)) (end-list _ _ (omega arith))))

@@ -21,14 +21,5 @@ more c =
 pub add-own-spec : {M : Type 1} → statement M
 add-own-spec =
     tie.close
-    (tie.spec
-    Inv-loop
-    μ-loop
-    (λ c. (search needs, search needs, shares-none _ _))
-    (λ c κs. tt)
-    (λ c κs. omega arith)
-    (λ c. omega arith)
-    (λ c. omega arith)
-    more
-    (λ c. omega arith)
-    (λ c. shares-all _ _ _ _ _ (c .loop-test .left) (c .before .loop .inv .2)))
+    (tie.spec Inv-loop μ-loop (λ c. (search needs, search needs, shares-none _ _)) (λ c κs. tt) (λ c κs. omega arith) (λ c. omega arith)
+    (λ c. omega arith) more (λ c. omega arith) (λ c. shares-all _ _ _ _ _ (c .loop-test .left) (c .before .loop .inv .2)))

@@ -17,13 +17,5 @@ again c = (simp length-set (omega arith), simp length-set (c .before .loop .inv 
 pub zero-spec : {M : Type 1} → statement M
 zero-spec =
     tie.close
-    (tie.spec
-    Inv-loop
-    μ-loop
-    (λ c. (omega arith, refl, refl))
-    (λ c. omega arith)
-    (λ c. omega arith)
-    (λ c. omega arith)
-    again
-    (λ c. omega arith)
+    (tie.spec Inv-loop μ-loop (λ c. (omega arith, refl, refl)) (λ c. omega arith) (λ c. omega arith) (λ c. omega arith) again (λ c. omega arith)
     (λ c. let e : c .before .loop .i ≡ length (c .before .before .args .s .now) = omega arith in zero-end _ _ _ e (c .loop-test .left) (c .before .loop .inv .2)))

@@ -8,8 +8,5 @@ pub past-minus-spec : {M : Type 1} → statement M
 unfolding pastMinus
 past-minus-spec =
     tie.close
-    (tie.spec
-    (λ c κs. tt)
-    (λ c. rw (is-equal _ _ (c .before .if1 .taken)) (c .read-refused .ensures))
-    (λ c κs. tt)
+    (tie.spec (λ c κs. tt) (λ c. rw (is-equal _ _ (c .before .if1 .taken)) (c .read-refused .ensures)) (λ c κs. tt)
     (λ c. rw (is-other _ _ (c .before .if1 .left)) (c .read-refused2 .ensures)))

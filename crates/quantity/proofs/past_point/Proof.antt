@@ -38,18 +38,6 @@ returns-4 c =
 pub past-point-spec : {M : Type 1} → statement M
 past-point-spec =
     tie.close
-    (tie.spec
-    (λ c κs. tt)
-    (λ c κs. tt)
-    returns
-    (λ c κs. tt)
-    returns-2
-    (λ c κs. tt)
-    returns-3
-    (λ c. omega arith)
-    decimal-from-requires
-    (λ c κs. tt)
+    (tie.spec (λ c κs. tt) (λ c κs. tt) returns (λ c κs. tt) returns-2 (λ c κs. tt) returns-3 (λ c. omega arith) decimal-from-requires (λ c κs. tt)
     (λ c. omega (arith, product-small _ _ (c .before .decimal-from .ensures .1) (c .worth .ensures .1)))
-    (λ c. omega (arith, product-small _ _ (c .before .decimal-from .ensures .1) (c .worth .ensures .1)))
-    (λ c κs. tt)
-    returns-4)
+    (λ c. omega (arith, product-small _ _ (c .before .decimal-from .ensures .1) (c .worth .ensures .1))) (λ c κs. tt) returns-4)

@@ -25,15 +25,5 @@ returns-3 c =
 pub past-whole-spec : {M : Type 1} → statement M
 past-whole-spec =
     tie.close
-    (tie.spec
-    (λ c. omega arith)
-    (λ c κs. tt)
-    returns
-    (search needs)
-    (λ c κs. tt)
-    returns-2
-    (λ c. omega arith)
-    (λ c. omega arith)
-    (λ c. omega arith)
-    (search needs)
-    returns-3)
+    (tie.spec (λ c. omega arith) (λ c κs. tt) returns (search needs) (λ c κs. tt) returns-2 (λ c. omega arith) (λ c. omega arith) (λ c. omega arith)
+    (search needs) returns-3)

@@ -26,15 +26,5 @@ returns-3 c =
 pub quantity-read-spec : {M : Type 1} → statement M
 quantity-read-spec =
     tie.close
-    (tie.spec
-    (λ c κs. tt)
-    returns
-    (search needs)
-    (λ c κs. tt)
-    returns-2
-    (λ c. omega arith)
-    (λ c. omega arith)
-    (λ c. omega arith)
-    (λ c κs. tt)
-    (λ c κs. tt)
-    returns-3)
+    (tie.spec (λ c κs. tt) returns (search needs) (λ c κs. tt) returns-2 (λ c. omega arith) (λ c. omega arith) (λ c. omega arith) (λ c κs. tt)
+    (λ c κs. tt) returns-3)

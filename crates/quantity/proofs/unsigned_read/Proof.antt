@@ -27,16 +27,7 @@ returns-3 c =
 pub unsigned-read-spec : {M : Type 1} → statement M
 unsigned-read-spec =
     tie.close
-    (tie.spec
-    (λ c κs. tt)
-    (λ c κs. tt)
-    returns
-    (λ c κs. tt)
-    returns-2
+    (tie.spec (λ c κs. tt) (λ c κs. tt) returns (λ c κs. tt) returns-2
     (λ c. sym (length-take-le _ _ (c .before .before .before .leading-digits .ensures .1)))
-    (λ c κs. (simp length-take (omega arith), c .before .before .before .leading-digits .ensures .2))
-    (λ c. omega arith)
-    (λ c. omega arith)
-    (λ c. omega arith)
-    (search needs)
-    returns-3)
+    (λ c κs. (simp length-take (omega arith), c .before .before .before .leading-digits .ensures .2)) (λ c. omega arith) (λ c. omega arith)
+    (λ c. omega arith) (search needs) returns-3)

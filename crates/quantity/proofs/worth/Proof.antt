@@ -9,7 +9,6 @@ pub worth-spec : {M : Type 1} → statement M
 unfolding worth
 worth-spec =
     tie.close
-    (tie.spec
-    (λ c. (rw (is-equal _ _ (c .if1 .taken)), search needs))
+    (tie.spec (λ c. (rw (is-equal _ _ (c .if1 .taken)), search needs))
     (λ c. (rw (is-other _ _ (c .before .if1 .left), is-equal _ _ (c .if2 .taken)), search needs))
     (λ c. (rw (is-other _ _ (c .before .if1 .left), is-other _ _ (c .if2 .left)), search needs)))

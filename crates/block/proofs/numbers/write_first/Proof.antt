@@ -21,15 +21,5 @@ loop-again c =
 pub write-first-spec : {M : Type 1} → statement M
 write-first-spec =
     tie.close
-    (tie.spec
-    Inv-loop
-    μ-loop
-    (λ c κs. tt)
-    (λ c. (omega arith, c .shorter .ensures, refl, refl))
-    (search needs)
-    (λ c. omega arith)
-    (λ c. omega arith)
-    (λ c. omega arith)
-    loop-again
-    (λ c. omega arith)
-    (λ c. write-end _ _ _ (omega arith) (c .before .loop .inv .3)))
+    (tie.spec Inv-loop μ-loop (λ c κs. tt) (λ c. (omega arith, c .shorter .ensures, refl, refl)) (search needs) (λ c. omega arith) (λ c. omega arith)
+    (λ c. omega arith) loop-again (λ c. omega arith) (λ c. write-end _ _ _ (omega arith) (c .before .loop .inv .3)))

@@ -27,15 +27,5 @@ ends c = let e : c .before .loop .k ≡ 100 = omega arith in rw e at (c .before 
 pub write-entries-spec : {M : Type 1} → statement M
 write-entries-spec =
     tie.close
-    (tie.spec
-    Inv-loop
-    μ-loop
-    (λ c. (omega arith, refl, entries-none _ _))
-    (λ c. omega arith)
-    (λ c. omega arith)
-    (λ c κs. omega arith)
-    (λ c. omega arith)
-    (λ c. omega arith)
-    more
-    (λ c. omega arith)
-    ends)
+    (tie.spec Inv-loop μ-loop (λ c. (omega arith, refl, entries-none _ _)) (λ c. omega arith) (λ c. omega arith) (λ c κs. omega arith)
+    (λ c. omega arith) (λ c. omega arith) more (λ c. omega arith) ends)

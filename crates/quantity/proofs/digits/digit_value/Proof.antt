@@ -9,7 +9,5 @@ pub digit-value-spec : {M : Type 1} → statement M
 unfolding digit
 digit-value-spec =
     tie.close
-    (tie.spec
-    (λ c. omega (arith, upto-yes _ _ (and-left _ _ (c .pre))))
-    (λ c. omega arith)
+    (tie.spec (λ c. omega (arith, upto-yes _ _ (and-left _ _ (c .pre)))) (λ c. omega arith)
     (λ c. (search needs, omega (arith, upto-yes _ _ (and-right _ _ (c .pre))))))

@@ -7,11 +7,5 @@ use Rattle.quantity.proofs.digits.put_byte.Tie as tie
 pub put-byte-spec : {M : Type 1} → statement M
 put-byte-spec =
     tie.close
-    (tie.spec
-    (λ c. sym (set-out _ _ _ (omega arith)))
-    (λ c. omega arith)
-    (λ c. sym (set-out _ _ _ (omega arith)))
-    (λ c. omega arith)
-    (λ c. omega arith)
-    (search needs)
-    (search needs))
+    (tie.spec (λ c. sym (set-out _ _ _ (omega arith))) (λ c. omega arith) (λ c. sym (set-out _ _ _ (omega arith))) (λ c. omega arith)
+    (λ c. omega arith) (search needs) (search needs))
