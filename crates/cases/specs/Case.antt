@@ -1,8 +1,6 @@
 -- A worked case: what is asked of the definitions, and what document 01 says, both as numbers.
 use Prim.Native.String.{String}
-use mathlib.Core.Bool.{Bool, cond}
-use mathlib.Core.List.{List, [], _∷_}
-use Prim.Native.Nat.{ℕ}
+use Rattle.laws.specs.Base.{Bool, cond, List, [], _∷_, ℕ}
 use Rattle.laws.specs.Lists.{same}
 use Rattle.paper.specs.declared.Verdict.{Verdict}
 use Rattle.paper.specs.declared.MarkAnswer.{MarkAnswer}

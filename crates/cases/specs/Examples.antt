@@ -1,9 +1,6 @@
 -- The parties, blocks, messages and books of the cases, built by name. The builders say the layout's table once more, apart from its readers.
 use Prim.Native.String.{String}
-use mathlib.Core.Bool.{cond}
-use mathlib.Core.List.{[], _∷_, _++_}
-use Prim.Native.Nat.{ℕ, zero, suc, _+_, _-_, _*_}
-use lib.ListN.{length, replicate}
+use Rattle.laws.specs.Base.{cond, [], _∷_, _++_, ℕ, zero, suc, _+_, _-_, _*_, length, replicate}
 use Rattle.laws.specs.Tests.{is, upto}
 use Rattle.laws.specs.Bytes.{written, little}
 use Rattle.paper.specs.Check.{sealed}

@@ -1,7 +1,5 @@
 -- The listing's example, from the opening to the text.
-use mathlib.Core.Path.{_≡_, refl}
-use mathlib.Core.List.{List, [], _∷_, _++_}
-use Prim.Native.Nat.{ℕ, _-_}
+use Rattle.laws.specs.Base.{_≡_, refl, List, [], _∷_, _++_, ℕ, _-_}
 use Rattle.paper.specs.declared.PlainRunAnswer.{PlainRunAnswer}
 use Rattle.paper.specs.Layout.{Bytes, quantity}
 use Rattle.paper.specs.Book.{used, numbered}

@@ -1,5 +1,5 @@
 -- Every definition that a case computes through. To name one of these on an `unfolding` line opens its whole group; `paper` opens all.
-use Prim.Native.Nat.{ℕ}
+use Rattle.laws.specs.Base.{ℕ}
 use Rattle.laws.specs.Tests.{_and_, _or_, neg, is, less, upto, below}
 use Rattle.laws.specs.Lists.{same, further, find, place, has, every, apart, count, keep, until, total}
 use Rattle.laws.specs.Bytes.{part, written, value, little, number}

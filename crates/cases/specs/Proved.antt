@@ -1,8 +1,5 @@
 -- The cases of document 01 marked P, as one statement over their list.
-use mathlib.Core.Path.{_≡_, refl}
-use mathlib.Core.List.{List, [], _∷_}
-use Prim.Native.Nat.{ℕ}
-use lib.ListN.{replicate}
+use Rattle.laws.specs.Base.{_≡_, refl, List, [], _∷_, ℕ, replicate}
 use Rattle.paper.specs.Layout.{withClock}
 use Rattle.paper.specs.Rules.{isOpen}
 use Rattle.paper.specs.Opening.{dayBlockOf}

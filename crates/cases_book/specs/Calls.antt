@@ -1,8 +1,5 @@
 -- Readings, opening, clock and quantity text where document 01 leaves room for doubt.
-use mathlib.Core.Path.{_≡_, refl}
-use mathlib.Core.List.{List, [], _∷_, _++_, map}
-use Prim.Native.Nat.{ℕ}
-use lib.ListN.{take, drop, replicate}
+use Rattle.laws.specs.Base.{_≡_, refl, List, [], _∷_, _++_, map, ℕ, take, drop, replicate}
 use Rattle.paper.specs.declared.ClockAnswer.{ClockAnswer}
 use Rattle.paper.specs.Layout.{Bytes}
 use Rattle.paper.specs.Message.{seriesNumbered}

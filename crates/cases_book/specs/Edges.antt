@@ -1,8 +1,5 @@
 -- "Both sides of each edge": the lines that are not marked P, and the edges that stand beside them.
-use mathlib.Core.Path.{_≡_, refl}
-use mathlib.Core.List.{List, [], _∷_, _++_, map}
-use Prim.Native.Nat.{ℕ}
-use lib.ListN.{take, drop, replicate}
+use Rattle.laws.specs.Base.{_≡_, refl, List, [], _∷_, _++_, map, ℕ, take, drop, replicate}
 use Rattle.laws.specs.Bytes.{written}
 use Rattle.paper.specs.Check.{checkOf}
 use Rattle.paper.specs.Layout.{Bytes, version}

@@ -1,6 +1,5 @@
 -- The seller has filed 45,000 throughout, in a book of two slots: all that is asked of that book, which is worked out once.
-use mathlib.Core.Path.{_≡_, refl}
-use mathlib.Core.List.{List, [], _++_}
+use Rattle.laws.specs.Base.{_≡_, refl, List, [], _++_}
 use Rattle.paper.specs.Layout.{Bytes}
 use Rattle.cases.specs.Case.{Case, wrong, once}
 use Rattle.cases.specs.Opened.{paper}

@@ -1,7 +1,5 @@
 -- Each number of the table of rules, with its series number, position and code; and the order of the rules. Each message differs from a right one in what its line says.
-use mathlib.Core.Path.{_≡_, refl}
-use mathlib.Core.List.{List, [], _∷_, _++_}
-use lib.ListN.{take, replicate}
+use Rattle.laws.specs.Base.{_≡_, refl, List, [], _∷_, _++_, take, replicate}
 use Rattle.laws.specs.Bytes.{written}
 use Rattle.paper.specs.Layout.{Bytes, Block}
 use Rattle.paper.specs.Listing.{text}

@@ -1,12 +1,5 @@
 -- A book is its day block and its slots, and bytes joined from blocks of 512 are read as those blocks; what a test says of a block follows from its kind.
-use mathlib.Core.Path.{_≡_, refl, sym, ap, ap₂, _∙_}
-use mathlib.Core.Bool.{Bool, true, false}
-use mathlib.Core.Option.{Option·getD}
-use mathlib.Core.List.{List, [], _∷_, _++_, map, append-assoc}
-use Prim.Native.Nat.{ℕ, zero, suc, _+_, _-_, _*_, _/_, _%_, _≤_, _<_}
-use native.Mathlib.Omega.{arith}
-use lib.ListN.{length, take, drop, length-drop, List·getD-append}
-use lib.Seq.{take-at, drop-at, drop-drop}
+use Rattle.laws.specs.Base.{_≡_, refl, sym, ap, ap₂, _∙_, Bool, true, false, Option·getD, List, [], _∷_, _++_, map, append-assoc, ℕ, zero, suc, _+_, _-_, _*_, _/_, _%_, _≤_, _<_, arith, length, take, drop, List·getD-append, length-drop, drop-at, drop-drop, take-at}
 use Rattle.laws.specs.Tests.{_or_, is}
 use Rattle.laws.specs.Tests.Laws.{split, clash, and-left, and-right, and-both, and-no-left, and-no-right, or-else, is-yes, is-equal, is-other}
 use Rattle.laws.specs.Lists.{same, place, has, until, All, find, further}

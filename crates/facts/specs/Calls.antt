@@ -1,10 +1,5 @@
 -- What an accepted clock move and an accepted opening say, as records.
-use mathlib.Core.Path.{_≡_, sym, _∙_}
-use mathlib.Core.Bool.{true, false}
-use mathlib.Core.List.{_++_}
-use Prim.Native.Nat.{ℕ, _-_, _/_, _%_, _≤_}
-use native.Mathlib.Omega.{arith}
-use lib.ListN.{length, drop, replicate, length-append, length-replicate}
+use Rattle.laws.specs.Base.{_≡_, sym, _∙_, true, false, _++_, ℕ, _-_, _/_, _%_, _≤_, arith, length, drop, replicate, length-append, length-replicate}
 use Rattle.laws.specs.Tests.{_or_, neg, less}
 use Rattle.laws.specs.Tests.Laws.{split, and-left, and-right, or-left, or-right, neg-no, is-yes, is-equal, less-no, upto-yes}
 use Rattle.laws.specs.Bytes.Laws.{little-length}

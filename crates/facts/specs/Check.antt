@@ -1,14 +1,7 @@
 -- The check of a block: it goes byte by byte and stays below 4,294,967,296; 31 has an inverse by that number, so that no two checks meet in a step
 -- and one changed byte is always noticed; and a sealed block's check is right.
-use mathlib.Core.Path.{_≡_, refl, sym, ap, _∙_}
+use Rattle.laws.specs.Base.{_≡_, refl, sym, ap, _∙_, true, false, List, [], _∷_, _++_, ℕ, suc, _+_, _-_, _*_, _/_, _≤_, _<_, add-one, arith, length, take, drop, getD, set, drop-of-length-le, length-take, take-append-drop, drop-cons, drop-drop, getD-take, set-split, split-at, take-set-lt}
 use mathlib.Core.Logic.{⊎-elim}
-use mathlib.Core.Bool.{true, false}
-use mathlib.Core.List.{List, [], _∷_, _++_}
-use Prim.Native.Nat.{ℕ, suc, _+_, _-_, _*_, _/_, _≤_, _<_}
-use native.Mathlib.Numerals.{add-one}
-use native.Mathlib.Omega.{arith}
-use lib.ListN.{length, take, drop, getD, set, length-take, take-append-drop, drop-of-length-le}
-use lib.Seq.{drop-cons, drop-drop, getD-take, take-set-lt, set-split, split-at}
 use Rattle.laws.specs.Tests.Laws.{lt-or, is-yes, is-equal, is-other}
 use Rattle.laws.specs.Bytes.{part, written, little, number}
 use Rattle.laws.specs.Bytes.Laws.{written-length, take-written, part-written-before, number-written, number-written-after}

@@ -1,11 +1,5 @@
 -- Facts of the EIC check: the sum is 0 of fifteen zeros alone, and a valid code is sixteen bytes long.
-use mathlib.Core.Path.{_≡_, refl, sym, _∙_}
-use mathlib.Core.Bool.{true}
-use mathlib.Core.List.{[], _∷_}
-use Prim.Native.Nat.{ℕ, zero, suc, _+_, _-_, _*_, _≤_}
-use native.Mathlib.Nat.{mul-zero, suc-mul}
-use native.Mathlib.Omega.{arith}
-use lib.ListN.{length, take, length-take}
+use Rattle.laws.specs.Base.{_≡_, refl, sym, _∙_, true, [], _∷_, ℕ, zero, suc, _+_, _-_, _*_, _≤_, mul-zero, suc-mul, arith, length, take, length-take}
 use Rattle.laws.specs.Tests.{_and_, is, upto}
 use Rattle.laws.specs.Tests.Laws.{split, clash, and-left, and-right, and-both, is-yes, is-equal, is-other, upto-yes}
 use Rattle.laws.specs.Lists.{every}

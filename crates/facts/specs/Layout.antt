@@ -1,12 +1,5 @@
 -- A field that is written is read as it was written, and no other field changes with it: each field is a part of the block, and no two parts meet.
-use mathlib.Core.Path.{_≡_, refl, sym, ap, _∙_}
-use mathlib.Core.Bool.{true}
-use mathlib.Core.List.{[], _∷_, _++_}
-use Prim.Native.Nat.{ℕ, zero, suc, _+_, _-_, _*_, _≤_, _<_}
-use native.Mathlib.Nat.{add-zero}
-use native.Mathlib.Omega.{arith}
-use lib.ListN.{length}
-use lib.Seq.{take-nil, drop-nil}
+use Rattle.laws.specs.Base.{_≡_, refl, sym, ap, _∙_, true, [], _∷_, _++_, ℕ, zero, suc, _+_, _-_, _*_, _≤_, _<_, add-zero, arith, length, drop-nil, take-nil}
 use Rattle.laws.specs.Tests.{is}
 use Rattle.laws.specs.Tests.Laws.{and-left, and-right, and-both, is-yes, is-equal}
 use Rattle.laws.specs.Lists.{every, All}

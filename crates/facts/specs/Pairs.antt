@@ -1,9 +1,5 @@
 -- A stored series is found by kind, sender's slot and pair: a change of a block that leaves these three leaves every search for a series or a counterpart.
-use mathlib.Core.Path.{_≡_, refl, ap}
-use mathlib.Core.Bool.{Bool, true, false}
-use mathlib.Core.Option.{Option, none, some, Option·map}
-use mathlib.Core.List.{List}
-use Prim.Native.Nat.{ℕ}
+use Rattle.laws.specs.Base.{_≡_, refl, ap, Bool, true, false, Option, none, some, Option·map, List, ℕ}
 use Rattle.laws.specs.Tests.{_and_}
 use Rattle.laws.specs.Tests.Laws.{split, and-left, and-right, and-both, and-no-left, is-yes, is-equal, is-same}
 use Rattle.laws.specs.Lists.{find}

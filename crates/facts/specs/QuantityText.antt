@@ -1,12 +1,5 @@
 -- Quantity text: what is printed is read back and is at most 8 bytes long, and what is read is below ten million.
-use mathlib.Core.Path.{_≡_, refl, ap, _∙_}
-use mathlib.Core.Bool.{Bool, true, false, cond}
-use mathlib.Core.List.{List, [], _∷_, _++_, append-nil}
-use Prim.Native.Nat.{ℕ, zero, suc, _+_, _-_, _*_, _/_, _%_, _^_, _≤_, _<_}
-use native.Mathlib.Nat.{pow-suc, pow-le-pow-right, zero-add, add-zero, mul-one}
-use native.Mathlib.Omega.{arith}
-use lib.ListN.{List·getD-append, length, take, drop, getD, length-append}
-use lib.Seq.{length-take-le, take-at, drop-at, take-all}
+use Rattle.laws.specs.Base.{_≡_, refl, ap, _∙_, Bool, true, false, cond, List, [], _∷_, _++_, append-nil, ℕ, zero, suc, _+_, _-_, _*_, _/_, _%_, _^_, _≤_, _<_, add-zero, mul-one, pow-le-pow-right, pow-suc, zero-add, arith, length, take, drop, getD, List·getD-append, length-append, drop-at, length-take-le, take-all, take-at}
 use Rattle.laws.specs.Tests.{_and_, neg, is, less, upto}
 use Rattle.laws.specs.Tests.Laws.{neg-no, neg-false, and-left, and-right, and-both, is-yes, is-no, is-same, is-other, upto-yes, upto-true, less-yes}
 use Rattle.laws.specs.Lists.{All, every, until}

@@ -1,11 +1,5 @@
 -- A mark that is put right changes the mark and the check of a block and nothing else of it, for it is written over these bytes alone.
-use mathlib.Core.Path.{_≡_, refl, ap, ap₂, _∙_}
-use mathlib.Core.Bool.{Bool, true, false}
-use mathlib.Core.Option.{Option, none, some, Option·map}
-use mathlib.Core.List.{List, map}
-use Prim.Native.Nat.{ℕ}
-use native.Mathlib.Omega.{arith}
-use lib.ListN.{length}
+use Rattle.laws.specs.Base.{_≡_, refl, ap, ap₂, _∙_, Bool, true, false, Option, none, some, Option·map, List, map, ℕ, arith, length}
 use Rattle.laws.specs.Tests.{_and_, is}
 use Rattle.laws.specs.Tests.Laws.{split, and-no-left}
 use Rattle.laws.specs.Lists.{same, find}

@@ -1,12 +1,6 @@
 -- An acceptance renews the sender's own blocks and leaves every other: a stored series keeps its slot, its sender's slot and its pair, for it is replaced by
 -- the message's series of its pair; and every new block is a stored one renewed, the sender's block, or a new series.
-use mathlib.Core.Path.{_≡_, refl, sym, ap, ap₂, _∙_}
-use mathlib.Core.Bool.{true, false, cond}
-use mathlib.Core.Option.{Option, none, some}
-use mathlib.Core.List.{List, [], _∷_, map}
-use Prim.Native.Nat.{ℕ, suc, _+_, _≤_, _<_}
-use native.Mathlib.Omega.{arith}
-use lib.ListN.{length, length-append, length-map}
+use Rattle.laws.specs.Base.{_≡_, refl, sym, ap, ap₂, _∙_, true, false, cond, Option, none, some, List, [], _∷_, map, ℕ, suc, _+_, _≤_, _<_, arith, length, length-append, length-map}
 use Rattle.laws.specs.Tests.{_and_, is}
 use Rattle.laws.specs.Tests.Laws.{split, clash}
 use Rattle.laws.specs.Lists.{same, find, has, keep, All}

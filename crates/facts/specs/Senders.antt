@@ -1,11 +1,5 @@
 -- Every series stands for a sender of the book, and a sender keeps its slot: an acceptance invents at most one sender, the message's, and puts it behind all others.
-use mathlib.Core.Path.{_≡_, refl, sym, ap, _∙_}
-use mathlib.Core.Bool.{true, false}
-use mathlib.Core.Option.{some}
-use mathlib.Core.List.{List, [], _∷_, _++_, map}
-use Prim.Native.Nat.{ℕ, zero, suc, _≤_, _<_}
-use native.Mathlib.Omega.{arith}
-use lib.ListN.{length, getD, length-map}
+use Rattle.laws.specs.Base.{_≡_, refl, sym, ap, _∙_, true, false, some, List, [], _∷_, _++_, map, ℕ, zero, suc, _≤_, _<_, arith, length, getD, length-map}
 use Rattle.laws.specs.Tests.{_and_, is}
 use Rattle.laws.specs.Tests.Laws.{split, clash, and-left, and-right, and-both, is-other}
 use Rattle.laws.specs.Lists.{same, place, nth, has, apart, keep, All}

@@ -1,11 +1,5 @@
 -- What soundness says, as records: whoever needs a clause takes it here by name, and no other file counts the conjuncts of the definition.
-use mathlib.Core.Path.{_≡_}
-use mathlib.Core.Bool.{true, false}
-use mathlib.Core.List.{List}
-use Prim.Native.Nat.{ℕ, _/_, _%_, _≤_}
-use native.Mathlib.Omega.{arith}
-use lib.ListN.{length, drop}
-use lib.Seq.{length-take-le}
+use Rattle.laws.specs.Base.{_≡_, true, false, List, ℕ, _/_, _%_, _≤_, arith, length, drop, length-take-le}
 use Rattle.laws.specs.Tests.{_or_, is}
 use Rattle.laws.specs.Tests.Laws.{split, and-left, and-right, and-both, or-no, or-yes-left, or-yes-right, or-else, is-yes, is-equal, upto-yes, upto-true}
 use Rattle.laws.specs.Lists.{apart, All}

@@ -1,11 +1,6 @@
 -- After an acceptance the sender holds the message's quantities under every pair, and everyone else what they held: a stored series of the sender is replaced
 -- by the message's, a new one is added, and none is absent from the message.
-use mathlib.Core.Path.{_≡_, refl, sym, ap, _∙_}
-use mathlib.Core.Bool.{true, false, cond}
-use mathlib.Core.Option.{Option, none, some, Option·map}
-use mathlib.Core.List.{List, [], _∷_, map}
-use Prim.Native.Nat.{ℕ}
-use lib.ListN.{length}
+use Rattle.laws.specs.Base.{_≡_, refl, sym, ap, _∙_, true, false, cond, Option, none, some, Option·map, List, [], _∷_, map, ℕ, length}
 use Rattle.laws.specs.Tests.{neg, is}
 use Rattle.laws.specs.Tests.Laws.{split, is-no}
 use Rattle.laws.specs.Lists.{same, find, has, keep, All}

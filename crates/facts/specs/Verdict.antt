@@ -1,11 +1,5 @@
 -- What rule 2 and a verdict of 0 say, as records: whoever needs a clause takes it here by name, and no other file counts the rules that were passed.
-use mathlib.Core.Path.{_≡_, refl, sym, _∙_}
-use mathlib.Core.Bool.{Bool, true, false}
-use mathlib.Core.List.{List, [], _∷_, _++_}
-use Prim.Native.Nat.{ℕ, suc, _+_, _/_, _%_, _≤_, _<_}
-use native.Mathlib.Omega.{arith}
-use lib.ListN.{length, drop, length-drop}
-use lib.Seq.{length-take-le}
+use Rattle.laws.specs.Base.{_≡_, refl, sym, _∙_, Bool, true, false, List, [], _∷_, _++_, ℕ, suc, _+_, _/_, _%_, _≤_, _<_, arith, length, drop, length-drop, length-take-le}
 use Rattle.laws.specs.Tests.{_and_, _or_, neg, is}
 use Rattle.laws.specs.Tests.Laws.{split, clash, and-left, and-right, and-both, and-no, or-left, or-right, or-no, neg-no, neg-true, is-yes, less-no, less-true, upto-yes, upto-true}
 use Rattle.laws.specs.Lists.{same, has, apart, All}

@@ -1,9 +1,6 @@
 -- Parts of a list, lists written over, and numbers as bytes, the lowest first.
 pub mod Laws
-use mathlib.Core.List.{List, [], _∷_}
-use Prim.Native.Nat.{ℕ, zero, suc, _+_, _*_, _/_, _%_}
-use lib.ListN.{take, drop}
-use lib.Seq.{sets}
+use Rattle.laws.specs.Base.{List, [], _∷_, ℕ, zero, suc, _+_, _*_, _/_, _%_, take, drop, sets}
 
 -- n elements from offset o
 unfoldable pub part : ℕ → ℕ → List ℕ → List ℕ

@@ -1,8 +1,6 @@
 -- A list cut into blocks of one width, and blocks joined.
 pub mod Laws
-use mathlib.Core.List.{List, [], _∷_, _++_}
-use Prim.Native.Nat.{ℕ, zero, suc, _*_, _/_}
-use lib.ListN.{length, take, drop}
+use Rattle.laws.specs.Base.{List, [], _∷_, _++_, ℕ, zero, suc, _*_, _/_, length, take, drop}
 
 module _ {A : Type 0} where
   -- the first k blocks of width w

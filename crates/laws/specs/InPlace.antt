@@ -1,11 +1,5 @@
 -- A list written over in place: by a rule, element by element (done); by another list, from the first element on (over).
-use mathlib.Core.Path.{_≡_, refl, sym, ap, ap₂, _∙_}
-use mathlib.Core.List.{List, [], _∷_, _++_, map, append-assoc, append-nil}
-use Prim.Native.Nat.{ℕ, suc, _+_, _≤_, _<_}
-use native.Mathlib.Numerals.{add-one}
-use native.Mathlib.Omega.{arith}
-use lib.ListN.{length, take, drop, getD, set, length-append, length-map, take-append-drop, drop-of-length-le}
-use lib.Seq.{take-suc, take-all, take-at, take-take, take-append-le, drop-cons, drop-drop, drop-append-add, set-at, getD-at, length-take-le}
+use Rattle.laws.specs.Base.{_≡_, refl, sym, ap, ap₂, _∙_, List, [], _∷_, _++_, map, append-assoc, append-nil, ℕ, suc, _+_, _≤_, _<_, add-one, arith, length, take, drop, getD, set, drop-of-length-le, length-append, length-map, take-append-drop, drop-append-add, drop-cons, drop-drop, getD-at, length-take-le, set-at, take-all, take-at, take-suc}
 use Rattle.laws.specs.Lists.Each.{map-append}
 
 module _ {X : Type 0} where
@@ -85,12 +79,6 @@ module _ {X : Type 0} where
   pub over-take : (p l : List X) (s : ℕ) → s ≡ length p → take s (over p l) ≡ p
   unfolding over
   over-take p l s e = take-at p (drop (length p) l) s (sym e)
-
-  pub over-front : (l r : List X) (s m : ℕ) → s ≤ length l → m ≤ s → take m (over (take s l ++ r) l) ≡ take m l
-  unfolding over
-  over-front l r s m h g =
-      let z : length (take s l) ≡ s = length-take-le s l h in
-      ap (take m) (append-assoc (take s l) r _) ∙ take-append-le m (take s l) _ (omega arith) ∙ take-take m s l g
 
   -- laid over what is laid over already
   pub over-over : (p r l : List X) → over (p ++ r) (over p l) ≡ over (p ++ r) l

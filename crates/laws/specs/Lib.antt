@@ -1,4 +1,5 @@
 -- General definitions and laws: no word of the desk. A file X holds definitions alone, the files below X/ what follows from them.
+pub mod Base
 pub mod Tests
 pub mod Lists
 pub mod Bytes

@@ -1,8 +1,5 @@
 -- Lists searched, sieved and compared by tests.
-use mathlib.Core.Bool.{Bool, true, false, cond}
-use mathlib.Core.Option.{Option, none, some}
-use mathlib.Core.List.{List, [], _∷_}
-use Prim.Native.Nat.{ℕ, zero, suc, _+_}
+use Rattle.laws.specs.Base.{Bool, true, false, cond, Option, none, some, List, [], _∷_, ℕ, zero, suc, _+_}
 use Rattle.laws.specs.Tests.{_and_, _or_, neg, is}
 pub mod Same
 pub mod Each

@@ -1,15 +1,7 @@
 -- Laws of loops over a list: what the whole gives is what is kept and the rest give together.
 -- A turn at i is given by Step l i x (step-cut for blocks, step-byte for bytes), the end by End l i (end-cut, end-list).
-use mathlib.Core.Path.{_≡_, refl, sym, ap, ap₂, _∙_}
-use mathlib.Core.Bool.{Bool, true, false, cond, _&&_}
-use mathlib.Core.List.{List, [], _∷_, _++_, append-nil}
-use Prim.Native.Nat.{ℕ, zero, suc, _+_, _-_, _/_, _≤_, _<_}
-use native.Mathlib.Nat.{add-zero}
-use native.Mathlib.Numerals.{add-one}
-use native.Mathlib.Omega.{arith}
+use Rattle.laws.specs.Base.{_≡_, refl, sym, ap, ap₂, _∙_, Bool, true, false, cond, _&&_, List, [], _∷_, _++_, append-nil, ℕ, zero, suc, _+_, _-_, _/_, _≤_, _<_, add-zero, add-one, arith, length, take, drop, getD, drop-of-length-le, length-drop, take-append-drop, drop-cons, length-take-le, take-add}
 use lib.Dec.{eqb}
-use lib.ListN.{length, take, drop, getD, length-drop, take-append-drop, drop-of-length-le}
-use lib.Seq.{take-add, drop-cons, length-take-le}
 use Rattle.laws.specs.Tests.{_and_, neg, is, below}
 use Rattle.laws.specs.Tests.Laws.{below-more, and-true, or-no}
 use Rattle.laws.specs.Lists.{same, further, place, has, every, apart, until}

@@ -1,7 +1,6 @@
 -- Answers in order. An answer has a number, and is a refusal where that is not 0; the first refusal wins.
 pub mod Laws
-use mathlib.Core.Bool.{cond}
-use Prim.Native.Nat.{ℕ, zero, suc, _+_}
+use Rattle.laws.specs.Base.{cond, ℕ, zero, suc, _+_}
 use Rattle.laws.specs.Tests.{is}
 
 module _ {A : Type 0} (number : A → ℕ) where

@@ -1,12 +1,5 @@
 -- Laws of a slice's parts as code lends them: `&s[o..]` is take (length s - o) (drop o s), `&s[o..o + n]` is take (o + n - o) (drop o s).
-use mathlib.Core.Path.{_≡_, refl, sym, ap, _∙_}
-use mathlib.Core.Bool.{Bool}
-use mathlib.Core.List.{List, [], _∷_, _++_, append-nil}
-use Prim.Native.Nat.{ℕ, suc, _+_, _-_, _≤_}
-use native.Mathlib.Nat.{add-zero, add-sub-cancel-left}
-use native.Mathlib.Omega.{arith}
-use lib.ListN.{length, take, drop, length-drop, take-append-drop, drop-of-length-le}
-use lib.Seq.{take-all, take-nil, drop-drop, set-out}
+use Rattle.laws.specs.Base.{_≡_, refl, sym, ap, _∙_, Bool, List, [], _∷_, _++_, append-nil, ℕ, suc, _+_, _-_, _≤_, add-sub-cancel-left, add-zero, arith, length, take, drop, drop-of-length-le, length-drop, take-append-drop, drop-drop, set-out, take-all, take-nil}
 use Rattle.laws.specs.Tests.{_and_}
 use Rattle.laws.specs.Lists.{same}
 use Rattle.laws.specs.Lists.Same.{same-split}

@@ -1,10 +1,6 @@
 -- A table of n numbers that holds what f gives at each place.
 pub mod Laws
-use mathlib.Core.Path.{_≡_}
-use mathlib.Core.Bool.{Bool, true}
-use mathlib.Core.List.{List, [], _∷_}
-use Prim.Native.Nat.{ℕ, suc, _<_}
-use lib.ListN.{getD}
+use Rattle.laws.specs.Base.{_≡_, Bool, true, List, [], _∷_, ℕ, suc, _<_, getD}
 use Rattle.laws.specs.Tests.{_and_, is}
 
 unfoldable pub Table : (ℕ → ℕ) → ℕ → List ℕ → Type 0

@@ -1,7 +1,6 @@
 -- Tests: functions to Bool that stay folded until a proof names them, so that a goal shows them by name.
 pub mod Laws
-use mathlib.Core.Bool.{Bool, true, not, _&&_, _||_}
-use Prim.Native.Nat.{ℕ, zero, suc}
+use Rattle.laws.specs.Base.{Bool, true, not, _&&_, _||_, ℕ, zero, suc}
 use lib.Dec.{eqb, leb, ltb}
 
 infixl 35 _and_

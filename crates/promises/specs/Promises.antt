@@ -1,10 +1,5 @@
 -- THE PAGE OF PROMISES. Each promise is stated in the words of `paper`, with a few more that stand in Words; each proof is one line that cites the file that carries the weight.
-use mathlib.Core.Path.{_≡_}
-use mathlib.Core.Bool.{true, false}
-use mathlib.Core.Option.{some, Option·map}
-use mathlib.Core.List.{List}
-use Prim.Native.Nat.{ℕ, _+_, _*_}
-use lib.ListN.{length, drop}
+use Rattle.laws.specs.Base.{_≡_, true, false, some, Option·map, List, ℕ, _+_, _*_, length, drop}
 use Rattle.laws.specs.Lists.{find, nth}
 use Rattle.paper.specs.Layout.{Bytes, Block, nOf, sender, nets, sendersSlot, pair, mark, partner, quantities}
 use Rattle.paper.specs.Book.{dayBlock, used, freeSlots, isSeries, isSenderBlockOf, slotOf, isSeriesOf, isSeriesOfPair, ownSender, ownSeries}

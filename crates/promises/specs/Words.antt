@@ -1,10 +1,6 @@
 -- The words of the promises that are not the paper's: what is kept of a block, a desk just opened, the desk after some calls, calls that do not open the book
 -- again, and a promise that determines what it promises.
-use mathlib.Core.Path.{_≡_}
-use mathlib.Core.Bool.{Bool}
-use mathlib.Core.Option.{Option, Option·map}
-use mathlib.Core.List.{List, [], _∷_, _++_}
-use Prim.Native.Nat.{ℕ, _+_, _≤_}
+use Rattle.laws.specs.Base.{_≡_, Bool, Option, Option·map, List, [], _∷_, _++_, ℕ, _+_, _≤_}
 use Rattle.laws.specs.Tests.{_and_}
 use Rattle.laws.specs.Lists.{find, has}
 use Rattle.laws.specs.Bytes.{part}

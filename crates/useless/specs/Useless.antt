@@ -1,11 +1,5 @@
 -- Each useless version of the desk contradicts a promise: one book and one message show it, by computation.
-use mathlib.Core.Path.{_≡_, refl, sym, ap, _∙_}
-use mathlib.Core.Bool.{Bool, true, false, cond}
-use mathlib.Core.Option.{Option, none, some, Option·map}
-use mathlib.Core.List.{List, [], _∷_, _++_, map}
-use Prim.Native.Nat.{ℕ, _+_, _*_}
-use native.Mathlib.Omega.{arith}
-use lib.ListN.{length, take, drop, getD, replicate}
+use Rattle.laws.specs.Base.{_≡_, refl, sym, ap, _∙_, Bool, true, false, cond, Option, none, some, Option·map, List, [], _∷_, _++_, map, ℕ, _+_, _*_, arith, length, take, drop, getD, replicate}
 use Rattle.laws.specs.Tests.{is}
 use Rattle.laws.specs.Tests.Laws.{is-equal}
 use Rattle.laws.specs.Lists.{find, nth}

@@ -1,12 +1,5 @@
 -- Laws of parts, of lists written over, and of numbers as bytes: what is read after what was written.
-use mathlib.Core.Path.{_≡_, refl, sym, ap, _∙_}
-use mathlib.Core.List.{List, [], _∷_, _++_, append-assoc, append-nil}
-use Prim.Native.Nat.{ℕ, zero, suc, _+_, _-_, _*_, _/_, _^_, _≤_, _<_}
-use native.Mathlib.Nat.{add-zero, zero-add, suc-add, add-suc, pow-zero, pow-suc, pow-le-pow-right, lt-of-lt-of-le}
-use native.Mathlib.Numerals.{add-one}
-use native.Mathlib.Omega.{arith}
-use lib.ListN.{length, take, drop, getD, set, length-set, length-take, length-drop, drop-of-length-le, replicate, replicate-append-replicate}
-use lib.Seq.{sets, length-sets, sets-eq, set-append-left, drop-set-lt, drop-set-add, take-set-le, take-set-lt, drop-at, take-at, length-take-le, take-append-le, drop-append-le, drop-append-add, take-nil, take-take, take-all, take-add, drop-drop, set-comm, take-suc-set}
+use Rattle.laws.specs.Base.{_≡_, refl, sym, ap, _∙_, List, [], _∷_, _++_, append-assoc, append-nil, ℕ, zero, suc, _+_, _-_, _*_, _/_, _^_, _≤_, _<_, add-suc, add-zero, lt-of-lt-of-le, pow-le-pow-right, pow-suc, pow-zero, suc-add, zero-add, add-one, arith, length, take, drop, getD, set, replicate, drop-of-length-le, length-drop, length-set, length-take, replicate-append-replicate, drop-append-add, drop-append-le, drop-at, drop-drop, drop-set-add, drop-set-lt, length-sets, length-take-le, set-append-left, set-comm, sets, sets-eq, take-add, take-all, take-append-le, take-at, take-nil, take-set-le, take-set-lt, take-suc-set, take-take}
 use Rattle.laws.specs.Lists.{All}
 use Rattle.laws.specs.Lists.Each.{all-take, all-drop, drop-take}
 use Rattle.laws.specs.Bytes.{part, written, value, little, number}

@@ -1,13 +1,6 @@
 -- Laws of lists cut into blocks: block by block, cut and joined again, and written over in one block. They hold for any width, 0 too, but where one asks for more.
-use mathlib.Core.Path.{_≡_, refl, sym, ap, ap₂, _∙_}
+use Rattle.laws.specs.Base.{_≡_, refl, sym, ap, ap₂, _∙_, List, [], _∷_, _++_, append-assoc, ℕ, zero, suc, _+_, _-_, _*_, _/_, _≤_, _<_, add-comm, add-zero, div-eq-of-lt, div-zero, le-trans, lt-mul-div-succ, mul-add-div, mul-div-cancel-left, mul-div-le, mul-le-mul-left, mul-suc, mul-zero, sub-zero, zero-add, zero-div, zero-mul, add-one, arith, length, take, drop, getD, set, drop-of-length-le, length-append, length-drop, take-append-drop, drop-append-le, drop-at, drop-cons, drop-drop, length-take-le, take-append-le, take-at, take-take}
 use mathlib.Core.Logic.{_⊎_, inl, inr}
-use mathlib.Core.List.{List, [], _∷_, _++_, append-assoc}
-use Prim.Native.Nat.{ℕ, zero, suc, _+_, _-_, _*_, _/_, _≤_, _<_}
-use native.Mathlib.Nat.{add-zero, zero-add, add-comm, sub-zero, mul-zero, zero-mul, mul-suc, mul-le-mul-left, mul-div-le, lt-mul-div-succ, div-zero, zero-div, div-eq-of-lt, mul-add-div, mul-div-cancel-left, le-trans}
-use native.Mathlib.Numerals.{add-one}
-use native.Mathlib.Omega.{arith}
-use lib.ListN.{length, take, drop, getD, set, length-append, length-drop, take-append-drop, drop-of-length-le}
-use lib.Seq.{drop-cons, drop-drop, take-take, take-at, drop-at, length-take-le, take-append-le, drop-append-le}
 use Rattle.laws.specs.Tests.Laws.{lt-or}
 use Rattle.laws.specs.Lists.{All}
 use Rattle.laws.specs.Lists.Each.{all-take, all-drop, drop-take}

@@ -1,10 +1,5 @@
 -- No element clashes with a later one.
-use mathlib.Core.Path.{_≡_, refl, sym}
-use mathlib.Core.Bool.{Bool, true, false}
-use mathlib.Core.List.{List, [], _∷_, _++_, map}
-use Prim.Native.Nat.{ℕ, zero, suc, _<_}
-use native.Mathlib.Omega.{arith}
-use lib.ListN.{length, getD}
+use Rattle.laws.specs.Base.{_≡_, refl, sym, Bool, true, false, List, [], _∷_, _++_, map, ℕ, zero, suc, _<_, arith, length, getD}
 use Rattle.laws.specs.Tests.{_and_, _or_, neg, is}
 use Rattle.laws.specs.Tests.Laws.{split, clash, and-left, and-right, and-both, or-yes-left, or-yes-right, neg-yes, neg-true, neg-false, is-equal}
 use Rattle.laws.specs.Lists.{further, place, apart, keep, All, has, every}

@@ -1,13 +1,5 @@
 -- How many elements pass a test (count), and the sum of what each gives (total).
-use mathlib.Core.Path.{_≡_, refl, ap, sym, _∙_}
-use mathlib.Core.Bool.{Bool, cond, true}
-use mathlib.Core.List.{List, [], _∷_, _++_, map}
-use Prim.Native.Nat.{ℕ, suc, _+_, _*_, _≤_, _<_}
-use native.Mathlib.Nat.{mul-suc, zero-add}
-use native.Mathlib.Numerals.{add-one}
-use native.Mathlib.Omega.{arith}
-use lib.ListN.{length, take, getD}
-use lib.Seq.{take-suc}
+use Rattle.laws.specs.Base.{_≡_, refl, sym, ap, _∙_, Bool, true, cond, List, [], _∷_, _++_, map, ℕ, suc, _+_, _*_, _≤_, _<_, mul-suc, zero-add, add-one, arith, length, take, getD, take-suc}
 use Rattle.laws.specs.Tests.{neg}
 use Rattle.laws.specs.Tests.Laws.{split, and-left, and-right, neg-yes, clash}
 use Rattle.laws.specs.Lists.{find, count, keep, total, ofFound, All, apart}

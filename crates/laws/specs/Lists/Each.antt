@@ -1,14 +1,5 @@
 -- Each element: by its number, by a property of all (All), by a test that all pass (every), and changed (map).
-use mathlib.Core.Path.{_≡_, refl, sym, ap, _∙_}
-use mathlib.Core.Bool.{Bool, true, false, true≢false}
-use mathlib.Core.Option.{some, Option·map}
-use mathlib.Core.List.{List, [], _∷_, _++_, map}
-use Prim.Native.Nat.{ℕ, zero, suc, _+_, _<_, _≤_}
-use native.Mathlib.Nat.{zero-add, suc-add}
-use native.Mathlib.Numerals.{add-one}
-use native.Mathlib.Omega.{arith}
-use lib.ListN.{length, take, drop, getD}
-use lib.Seq.{take-suc, take-nil}
+use Rattle.laws.specs.Base.{_≡_, refl, sym, ap, _∙_, Bool, true, false, true≢false, some, Option·map, List, [], _∷_, _++_, map, ℕ, zero, suc, _+_, _≤_, _<_, suc-add, zero-add, add-one, arith, length, take, drop, getD, take-nil, take-suc}
 use Rattle.laws.specs.Tests.{_and_}
 use Rattle.laws.specs.Tests.Laws.{split, clash, and-left, and-right, and-both, and-true}
 use Rattle.laws.specs.Lists.{find, nth, every, keep, until, All}

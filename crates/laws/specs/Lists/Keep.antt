@@ -1,11 +1,5 @@
 -- The elements that pass a test (keep), and those before the first that passes (until).
-use mathlib.Core.Path.{_≡_, refl, sym, ap, _∙_}
-use mathlib.Core.Bool.{Bool, true, false}
-use mathlib.Core.List.{List, [], _∷_, _++_, map}
-use Prim.Native.Nat.{ℕ, zero, suc, _≤_, _<_, _+_, _-_}
-use native.Mathlib.Omega.{arith}
-use lib.ListN.{length, take, getD, drop, length-drop, take-append-drop}
-use lib.Seq.{take-all}
+use Rattle.laws.specs.Base.{_≡_, refl, sym, ap, _∙_, Bool, true, false, List, [], _∷_, _++_, map, ℕ, zero, suc, _+_, _-_, _≤_, _<_, arith, length, take, drop, getD, length-drop, take-append-drop, take-all}
 use Rattle.laws.specs.Tests.Laws.{split, cond-apply, or-left, or-right, or-no}
 use Rattle.laws.specs.Lists.{has, count, keep, until, All}
 use Rattle.laws.specs.Lists.Each.{all-each}

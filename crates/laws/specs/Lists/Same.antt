@@ -1,9 +1,5 @@
 -- Two lists of numbers that are the same.
-use mathlib.Core.Path.{_≡_, refl, sym, ap, ap₂, _∙_}
-use mathlib.Core.Bool.{true, false, false≢true}
-use mathlib.Core.List.{List, [], _∷_}
-use Prim.Native.Nat.{ℕ, zero, suc}
-use lib.ListN.{length, take, drop}
+use Rattle.laws.specs.Base.{_≡_, refl, sym, ap, ap₂, _∙_, true, false, false≢true, List, [], _∷_, ℕ, zero, suc, length, take, drop}
 use Rattle.laws.specs.Tests.{_and_, is}
 use Rattle.laws.specs.Tests.Laws.{split, clash, and-left, and-right, and-both, and-assoc, is-yes, is-same}
 use Rattle.laws.specs.Lists.{same}

@@ -1,12 +1,5 @@
 -- The first element that passes a test: whether there is one (has), which it is (find), at what place it stands (place).
-use mathlib.Core.Path.{_≡_, refl, sym, ap, _∙_}
-use mathlib.Core.Bool.{Bool, true, false, cond, true≢false, false≢true}
-use mathlib.Core.Option.{none, some, Option·map}
-use mathlib.Core.List.{List, [], _∷_, _++_, map}
-use Prim.Native.Nat.{ℕ, zero, suc, _-_, _≤_, _<_}
-use native.Mathlib.Omega.{arith}
-use lib.ListN.{length, take, getD}
-use lib.Seq.{take-suc}
+use Rattle.laws.specs.Base.{_≡_, refl, sym, ap, _∙_, Bool, true, false, cond, false≢true, true≢false, none, some, Option·map, List, [], _∷_, _++_, map, ℕ, zero, suc, _-_, _≤_, _<_, arith, length, take, getD, take-suc}
 use Rattle.laws.specs.Tests.{_and_, _or_, neg, is, below}
 use Rattle.laws.specs.Tests.Laws.{split, clash, cond-apply, or-left, or-right, or-no, or-false, or-exchange, neg-true, neg-false, neg-and-neg, is-yes, is-no, is-equal, is-other}
 use Rattle.laws.specs.Lists.{further, find, place, nth, has, every, keep, All}

@@ -1,8 +1,6 @@
 -- Laws of answers in order: one before another, and along positions, for a loop that stops at the first refusal and for one that keeps it.
-use mathlib.Core.Path.{_≡_, refl, sym, ap, ap₂, _∙_}
-use Prim.Native.Nat.{ℕ, zero, suc, _+_, _-_, _≤_, _<_}
+use Rattle.laws.specs.Base.{_≡_, refl, sym, ap, ap₂, _∙_, ℕ, zero, suc, _+_, _-_, _≤_, _<_, arith}
 use native.Mathlib.Decide.{ℕ-discrete}
-use native.Mathlib.Omega.{arith}
 use Rattle.laws.specs.Tests.{is}
 use Rattle.laws.specs.Tests.Laws.{split, is-yes, is-no, is-equal, is-other}
 use Rattle.laws.specs.Order.{first, along}
@@ -17,11 +15,6 @@ module _ {A : Type 0} (number : A → ℕ) where
   pub first-stop : (a b : A) → (number a ≡ 0 → ⊥) → first number a b ≡ a
   unfolding first
   first-stop a b e = rw (is-other (number a) 0 e)
-
-  pub first-assoc : (a b c : A) → first number (first number a b) c ≡ first number a (first number b c)
-  first-assoc a b c = split (is (number a) 0)
-      (λ t. let e : number a ≡ 0 = is-yes _ _ t in ap (λ z. first number z c) (first-on a b e) ∙ sym (first-on a (first number b c) e))
-      (λ t. let e : number a ≡ 0 → ⊥ = is-no _ _ t in ap (λ z. first number z c) (first-stop a b e) ∙ first-stop a c e ∙ sym (first-stop a (first number b c) e))
 
   -- no refusal of the two together, or of each
   pub first-left : (a b : A) → number (first number a b) ≡ 0 → number a ≡ 0

@@ -1,11 +1,5 @@
 -- One test, computed over a whole table, gives its rule at each entry.
-use mathlib.Core.Path.{_≡_}
-use mathlib.Core.Bool.{true}
-use mathlib.Core.List.{List, [], _∷_}
-use Prim.Native.Nat.{ℕ, zero, suc, _+_, _<_}
-use native.Mathlib.Omega.{arith}
-use native.Mathlib.Nat.{add-zero, zero-add, add-suc, suc-add}
-use lib.ListN.{length, getD}
+use Rattle.laws.specs.Base.{_≡_, true, List, [], _∷_, ℕ, zero, suc, _+_, _<_, add-suc, add-zero, suc-add, zero-add, arith, length, getD}
 use Rattle.laws.specs.Tests.{is}
 use Rattle.laws.specs.Tests.Laws.{and-left, and-right, is-yes}
 use Rattle.laws.specs.Table.{Table, tabulates}

@@ -1,10 +1,6 @@
 -- Laws of tests: what a test says of its parts, and how a test is made true or false.
-use mathlib.Core.Path.{_≡_, refl, sym, _∙_, ap}
+use Rattle.laws.specs.Base.{_≡_, refl, sym, ap, _∙_, Bool, true, false, cond, not, false≢true, true≢false, ℕ, zero, suc, _+_, _≤_, _<_, add-one, arith}
 use mathlib.Core.Logic.{_⊎_, inl, inr}
-use mathlib.Core.Bool.{Bool, true, false, not, cond, true≢false, false≢true}
-use Prim.Native.Nat.{ℕ, zero, suc, _+_, _≤_, _<_}
-use native.Mathlib.Numerals.{add-one}
-use native.Mathlib.Omega.{arith}
 use borrow.Author.Tests.{not-true, not-false, ltb-true, ltb-false, leb-true, leb-false, eqb-true, eqb-false, lt-ltb, le-ltb, le-leb, lt-leb, eq-eqb, ne-eqb}
 use Rattle.laws.specs.Tests.{_and_, _or_, neg, is, less, upto, below}
 

@@ -1,9 +1,5 @@
 -- What holds of a book and the messages accepted since it was opened: it holds after an accepted opening, each call keeps it, and so it holds after any calls.
-use mathlib.Core.Path.{_≡_, refl, sym, ap, _∙_}
-use mathlib.Core.Bool.{cond}
-use mathlib.Core.Option.{some, Option·map}
-use mathlib.Core.List.{List, [], _∷_, _++_}
-use Prim.Native.Nat.{ℕ}
+use Rattle.laws.specs.Base.{_≡_, refl, sym, ap, _∙_, cond, some, Option·map, List, [], _∷_, _++_, ℕ}
 use Rattle.laws.specs.Tests.{is}
 use Rattle.laws.specs.Tests.Laws.{split, is-yes, is-no}
 use Rattle.laws.specs.Lists.{same, find}

@@ -1,7 +1,6 @@
 -- Past rule 1 the verdict is worked out from the day block, the sender's own stored blocks, the number of free slots and the message, and takes nothing else as
 -- an argument.
-use mathlib.Core.Path.{_≡_, sym, _∙_}
-use mathlib.Core.Bool.{true}
+use Rattle.laws.specs.Base.{_≡_, sym, _∙_, true}
 use Rattle.paper.specs.Layout.{Bytes, sender}
 use Rattle.paper.specs.Book.{dayBlock, used, freeSlots, ownSender, ownSeries}
 use Rattle.paper.specs.Sound.{sound}

@@ -1,11 +1,6 @@
 -- True marks stay true: a mark is worked out anew for every series of the sender and for every series with a pair of the sender's; any other series has neither
 -- a pair nor a counterpart among the blocks that change, so its mark is worked out from the same blocks as before.
-use mathlib.Core.Path.{_≡_, refl, sym, ap, _∙_}
-use mathlib.Core.Bool.{true, false}
-use mathlib.Core.Option.{Option, none, some, Option·map}
-use mathlib.Core.List.{List, map}
-use Prim.Native.Nat.{ℕ}
-use lib.ListN.{length}
+use Rattle.laws.specs.Base.{_≡_, refl, sym, ap, _∙_, true, false, Option, none, some, Option·map, List, map, ℕ, length}
 use Rattle.laws.specs.Tests.Laws.{split, clash, and-both, and-no, or-right, or-yes-left, is-equal}
 use Rattle.laws.specs.Lists.{find, place, has, All}
 use Rattle.laws.specs.Lists.Each.{all-imply, all-both, all-find, all-map}

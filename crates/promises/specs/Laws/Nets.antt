@@ -1,12 +1,7 @@
 -- A sender's nets are the words of its sums at each position: within their range, for at most 200 quantities of at most 9,999,999 are summed; zero above n, for
 -- the quantities are; and they depend on the two sums alone.
-use mathlib.Core.Path.{_≡_, refl, sym, ap, _∙_}
-use mathlib.Core.Bool.{Bool, true, false, cond}
-use mathlib.Core.List.{List, _++_}
-use Prim.Native.Nat.{ℕ, zero, suc, _+_, _-_, _*_, _%_, _≤_, _<_}
-use native.Mathlib.Omega.{arith}
+use Rattle.laws.specs.Base.{_≡_, refl, sym, ap, _∙_, Bool, true, false, cond, List, _++_, ℕ, zero, suc, _+_, _-_, _*_, _%_, _≤_, _<_, arith, length, length-append}
 use native.Mathlib.Decide.{ℕ-discrete}
-use lib.ListN.{length, length-append}
 use Rattle.laws.specs.Tests.{upto}
 use Rattle.laws.specs.Tests.Laws.{split, and-both, or-yes-left, or-yes-right, upto-no, upto-true, below-each}
 use Rattle.laws.specs.Lists.{same, total, All}

@@ -1,11 +1,6 @@
 -- True nets stay true: the nets kept for the message's sender are summed over the message, and its stored series are then the message's; another sender's block
 -- and series stay.
-use mathlib.Core.Path.{_≡_, refl, sym, ap, ap₂, _∙_}
-use mathlib.Core.Bool.{true, false, cond}
-use mathlib.Core.Option.{Option, none, some, Option·map}
-use mathlib.Core.List.{List, map}
-use Prim.Native.Nat.{ℕ, _<_}
-use native.Mathlib.Omega.{arith}
+use Rattle.laws.specs.Base.{_≡_, refl, sym, ap, ap₂, _∙_, true, false, cond, Option, none, some, Option·map, List, map, ℕ, _<_, arith}
 use Rattle.laws.specs.Tests.{is}
 use Rattle.laws.specs.Tests.Laws.{split}
 use Rattle.laws.specs.Lists.{same, find, has, keep, All}

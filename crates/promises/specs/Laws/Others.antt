@@ -1,12 +1,6 @@
 -- An acceptance renews the sender's own blocks alone, and marks anew besides these only series with a pair of the sender's, which are its counterparts: any
 -- other block keeps its slot and every byte; and nothing is written before the used slots or behind them.
-use mathlib.Core.Path.{_≡_, sym, ap, _∙_, refl}
-use mathlib.Core.Bool.{true, false}
-use mathlib.Core.Option.{some, Option·map}
-use mathlib.Core.List.{List, _++_, map}
-use Prim.Native.Nat.{ℕ, _+_, _*_}
-use lib.ListN.{length, drop}
-use lib.Seq.{drop-at}
+use Rattle.laws.specs.Base.{_≡_, refl, sym, ap, _∙_, true, false, some, Option·map, List, _++_, map, ℕ, _+_, _*_, length, drop, drop-at}
 use Rattle.laws.specs.Tests.{_and_, is}
 use Rattle.laws.specs.Tests.Laws.{split, clash, and-left, and-right, and-both, and-no, or-else, neg-true}
 use Rattle.laws.specs.Lists.{nth, has}

@@ -1,6 +1,5 @@
 -- Short names for the parts of an acceptance of a message into a book, so that a statement about them stays one line.
-use mathlib.Core.List.{List}
-use Prim.Native.Nat.{ℕ}
+use Rattle.laws.specs.Base.{List, ℕ}
 use Rattle.laws.specs.Lists.{keep}
 use Rattle.paper.specs.Layout.{Bytes, Block, nOf, sender}
 use Rattle.paper.specs.Book.{dayBlock, used, ownSeries}

@@ -1,11 +1,6 @@
 -- The marks kept are the plain rule's: a true mark is worked out from the series' quantities and its counterpart's, these are what the two parties last sent
 -- under the pair, and the slot in it is the counterpart's.
-use mathlib.Core.Path.{_≡_, refl, sym, ap, ap₂, _∙_}
-use mathlib.Core.Bool.{Bool, true, false, true≢false}
-use mathlib.Core.Option.{Option, none, some, Option·map, Option·getD}
-use mathlib.Core.List.{List, [], _∷_}
-use Prim.Native.Nat.{ℕ, zero, suc, _<_}
-use native.Mathlib.Omega.{arith}
+use Rattle.laws.specs.Base.{_≡_, refl, sym, ap, ap₂, _∙_, Bool, true, false, true≢false, Option, none, some, Option·getD, Option·map, List, [], _∷_, ℕ, zero, suc, _<_, arith}
 use Rattle.laws.specs.Tests.{_or_, neg}
 use Rattle.laws.specs.Tests.Laws.{split, clash, and-left, and-right, and-both, or-yes-left, or-yes-right, neg-yes, neg-true}
 use Rattle.laws.specs.Lists.{same, find, place, nth, every, apart, All}

@@ -1,12 +1,6 @@
 -- What an acceptance writes is read back as the blocks that it was made of: they are whole blocks, none of them is free, there is room for them, and behind
 -- them all slots stay free.
-use mathlib.Core.Path.{_≡_, ap, _∙_}
-use mathlib.Core.Bool.{true, false}
-use mathlib.Core.List.{List, _++_, append-assoc}
-use Prim.Native.Nat.{ℕ, _+_, _-_, _*_, _/_, _≤_, _<_}
-use native.Mathlib.Omega.{arith}
-use lib.ListN.{length, drop, length-append, length-map, length-drop}
-use lib.Seq.{drop-drop}
+use Rattle.laws.specs.Base.{_≡_, ap, _∙_, true, false, List, _++_, append-assoc, ℕ, _+_, _-_, _*_, _/_, _≤_, _<_, arith, length, drop, length-append, length-drop, length-map, drop-drop}
 use Rattle.laws.specs.Tests.{_or_}
 use Rattle.laws.specs.Tests.Laws.{split, clash, or-yes-left, or-yes-right, or-else}
 use Rattle.laws.specs.Lists.{All}

@@ -1,6 +1,5 @@
 -- A call that writes does so only where its number is 0, so a refusal changes nothing.
-use mathlib.Core.Path.{_≡_}
-use Prim.Native.Nat.{ℕ}
+use Rattle.laws.specs.Base.{_≡_, ℕ}
 use Rattle.laws.specs.Tests.Laws.{is-equal, is-other}
 use Rattle.paper.specs.Layout.{Bytes}
 use Rattle.paper.specs.Rules.{numberOf, verdict}

@@ -1,9 +1,6 @@
 -- Where every series stands for a sender that is one of its two parties, the counterpart of a series is the other party's series with its pair: a pair has two
 -- parties, and a slot has one sender.
-use mathlib.Core.Path.{_≡_, sym, ap, _∙_}
-use mathlib.Core.Bool.{true}
-use mathlib.Core.List.{List}
-use lib.ListN.{take}
+use Rattle.laws.specs.Base.{_≡_, sym, ap, _∙_, true, List, take}
 use Rattle.laws.specs.Tests.{_and_, neg, is}
 use Rattle.laws.specs.Tests.Laws.{split, and-left, and-right, and-no-left, or-else, neg-yes, neg-true, neg-false, is-yes, is-no, is-equal, is-other, and-agree}
 use Rattle.laws.specs.Lists.{same, has, All}

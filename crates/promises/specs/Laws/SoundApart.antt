@@ -1,9 +1,6 @@
 -- Soundness is kept by an acceptance, as to distinctness: a renewed block keeps sender, id and pair, by rule 7; the one sender that may be added was not there;
 -- and a new series has an id and a pair that no stored series of the sender and no other series of the message has.
-use mathlib.Core.Path.{_≡_, refl, sym, ap, _∙_}
-use mathlib.Core.Bool.{true, false, cond}
-use mathlib.Core.List.{List, [], _∷_, map}
-use lib.ListN.{length}
+use Rattle.laws.specs.Base.{_≡_, refl, sym, ap, _∙_, true, false, cond, List, [], _∷_, map, length}
 use Rattle.laws.specs.Tests.Laws.{split, clash, and-left, and-right, and-both, or-no, or-yes-right, neg-yes, is-yes, is-equal}
 use Rattle.laws.specs.Lists.{has, every, apart, All}
 use Rattle.laws.specs.Lists.Same.{same-yes, same-equal}

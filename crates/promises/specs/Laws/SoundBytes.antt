@@ -1,11 +1,5 @@
 -- Soundness is kept by an acceptance, as to length, day block, checks and free slots: every block that is written is sealed, every other stays as it was.
-use mathlib.Core.Path.{_≡_, refl, _∙_}
-use mathlib.Core.Bool.{true, false}
-use mathlib.Core.List.{List}
-use Prim.Native.Nat.{ℕ, _/_, _≤_}
-use native.Mathlib.Omega.{arith}
-use lib.ListN.{length, drop}
-use lib.Seq.{drop-at}
+use Rattle.laws.specs.Base.{_≡_, refl, _∙_, true, false, List, ℕ, _/_, _≤_, arith, length, drop, drop-at}
 use Rattle.laws.specs.Tests.Laws.{split, clash}
 use Rattle.laws.specs.Lists.{All}
 use Rattle.laws.specs.Lists.Each.{all-both, all-append, all-drop, all-until, all-map}

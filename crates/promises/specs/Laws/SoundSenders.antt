@@ -1,11 +1,6 @@
 -- Soundness is kept by an acceptance, as to every sender: the message's has passed rules 3 to 6 and its nets are within range; every other block stays as it
 -- was; and each count is the number of the sender's series, for the message's count was right and the others' series are what they were.
-use mathlib.Core.Path.{_≡_, refl, sym, ap, _∙_}
-use mathlib.Core.Bool.{true, false}
-use mathlib.Core.List.{List}
-use Prim.Native.Nat.{ℕ, _≤_}
-use native.Mathlib.Omega.{arith}
-use lib.ListN.{length}
+use Rattle.laws.specs.Base.{_≡_, refl, sym, ap, _∙_, true, false, List, ℕ, _≤_, arith, length}
 use Rattle.laws.specs.Tests.{_or_}
 use Rattle.laws.specs.Tests.Laws.{split, clash, and-left, and-right, and-both, or-else, is-yes, is-equal, upto-true}
 use Rattle.laws.specs.Lists.{same, count, keep, total, All}

@@ -1,13 +1,6 @@
 -- Soundness is kept by an acceptance, as to every series: its fields are those of a stored series or of one that passed rules 7 to 15; its mark, if it is made
 -- anew, has a state from 1 to 3 and names a series' slot; and its sender's slot holds its sender, for no sender moves.
-use mathlib.Core.Path.{_≡_, refl, sym, ap, _∙_}
-use mathlib.Core.Bool.{Bool, true, false, cond}
-use mathlib.Core.Option.{Option, none, some, Option·map, Option·getD}
-use mathlib.Core.List.{List, [], _∷_}
-use Prim.Native.Nat.{ℕ, zero, suc, _+_, _≤_, _<_}
-use native.Mathlib.Omega.{arith}
-use lib.ListN.{length}
-use lib.Seq.{take-all}
+use Rattle.laws.specs.Base.{_≡_, refl, sym, ap, _∙_, Bool, true, false, cond, Option, none, some, Option·getD, Option·map, List, [], _∷_, ℕ, zero, suc, _+_, _≤_, _<_, arith, length, take-all}
 use Rattle.laws.specs.Tests.{_or_, neg, is, upto}
 use Rattle.laws.specs.Tests.Laws.{split, clash, and-left, and-right, and-both, or-yes-left, or-yes-right, or-else, is-equal, upto-true, below-each, below-agree}
 use Rattle.laws.specs.Lists.{same, find, place, keep, All}

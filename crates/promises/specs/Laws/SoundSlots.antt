@@ -1,10 +1,5 @@
 -- No block moves: after an acceptance a slot that was used holds the block that it held, renewed and marked, and the sender stands in its slot.
-use mathlib.Core.Path.{_≡_, ap, _∙_}
-use mathlib.Core.Bool.{true}
-use mathlib.Core.List.{map}
-use Prim.Native.Nat.{ℕ, zero, _/_, _≤_, _<_}
-use native.Mathlib.Omega.{arith}
-use lib.ListN.{length, length-append, length-map}
+use Rattle.laws.specs.Base.{_≡_, ap, _∙_, true, map, ℕ, zero, _/_, _≤_, _<_, arith, length, length-append, length-map}
 use Rattle.laws.specs.Tests.Laws.{split}
 use Rattle.laws.specs.Lists.{has}
 use Rattle.paper.specs.Layout.{Bytes, nOf, sender}

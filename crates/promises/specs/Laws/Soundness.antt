@@ -1,11 +1,6 @@
 -- Soundness is kept: an accepted opening gives a sound book, an accepted clock move writes the clock alone, and an acceptance keeps each clause of soundness
 -- for its own reason.
-use mathlib.Core.Path.{_≡_, refl, ap, _∙_}
-use mathlib.Core.Bool.{true}
-use mathlib.Core.List.{List, []}
-use Prim.Native.Nat.{ℕ, zero, suc, _-_, _/_, _≤_}
-use native.Mathlib.Omega.{arith}
-use lib.ListN.{length, drop, replicate, length-append, length-drop, length-replicate}
+use Rattle.laws.specs.Base.{_≡_, refl, ap, _∙_, true, List, [], ℕ, zero, suc, _-_, _/_, _≤_, arith, length, drop, replicate, length-append, length-drop, length-replicate}
 use Rattle.laws.specs.Tests.{is}
 use Rattle.laws.specs.Tests.Laws.{and-left, and-right, and-both, is-same, upto-true}
 use Rattle.laws.specs.Lists.{every, apart, until, All}

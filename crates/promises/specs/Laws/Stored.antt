@@ -1,9 +1,6 @@
 -- After an acceptance the sender holds the message's quantities under every pair, and everyone else what they held: a stored series of the sender is replaced
 -- by the message's, a new one is added, and none is absent from the message.
-use mathlib.Core.Path.{_≡_}
-use mathlib.Core.Bool.{cond}
-use Prim.Native.Nat.{ℕ}
-use native.Mathlib.Omega.{arith}
+use Rattle.laws.specs.Base.{_≡_, cond, ℕ, arith}
 use Rattle.laws.specs.Lists.{same}
 use Rattle.paper.specs.Layout.{Bytes, Block, nOf, sender, quantities, withSendersSlot}
 use Rattle.paper.specs.Book.{dayBlock, used, pairIs}

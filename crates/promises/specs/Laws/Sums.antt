@@ -1,11 +1,6 @@
 -- Sums over a sender's series after an acceptance: over the message's sender they are the sums over the message, for its series are the stored ones replaced
 -- and the new ones, each once, by rules 7 and 16; over any other sender they are what they were.
-use mathlib.Core.Path.{_≡_, sym, ap, ap₂, _∙_}
-use mathlib.Core.Bool.{Bool, true, false, cond}
-use mathlib.Core.List.{List, [], _∷_, _++_, map}
-use Prim.Native.Nat.{ℕ, _+_}
-use native.Mathlib.Nat.{add-zero}
-use lib.ListN.{length}
+use Rattle.laws.specs.Base.{_≡_, sym, ap, ap₂, _∙_, Bool, true, false, cond, List, [], _∷_, _++_, map, ℕ, _+_, add-zero, length}
 use Rattle.laws.specs.Tests.{is}
 use Rattle.laws.specs.Tests.Laws.{split, is-no}
 use Rattle.laws.specs.Lists.{find, has, apart, keep, total, All, ofFound}
