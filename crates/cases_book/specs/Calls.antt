@@ -163,7 +163,7 @@ walk = refl
 
 unfoldable pub ofListing : List Case
 ofListing =
-    once listing (bookOf 1) gives header
+    once listing (bookOf 63) gives header
     -- 64 blocks, and a byte more
     ∷ listing (replicate 32768 1) gives text "not sound\n"
     ∷ listing (replicate 32769 1) gives text "too long\n"

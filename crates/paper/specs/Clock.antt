@@ -4,7 +4,6 @@ use mathlib.Core.List.{_++_}
 use Prim.Native.Nat.{ℕ}
 use lib.ListN.{drop}
 use Rattle.laws.specs.Tests.{_or_, neg, is, less}
-use Rattle.paper.specs.declared.Minute.{Minute}
 use Rattle.paper.specs.declared.DayState.{DayState}
 use Rattle.paper.specs.declared.ClockAnswer.{ClockAnswer}
 use Rattle.paper.specs.Layout.{Bytes, Block, nOf, lead, clockPlus10080, withClock}

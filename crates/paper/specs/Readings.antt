@@ -5,8 +5,6 @@ use mathlib.Core.List.{List, []}
 use Prim.Native.Nat.{ℕ}
 use Rattle.laws.specs.Tests.{_and_}
 use Rattle.laws.specs.Lists.{find}
-use Rattle.paper.specs.declared.Position.{Position}
-use Rattle.paper.specs.declared.Slot.{Slot}
 use Rattle.paper.specs.declared.MarkAnswer.{MarkAnswer}
 use Rattle.paper.specs.Layout.{Bytes, Block, state, first, partner}
 use Rattle.paper.specs.Book.{used, idIs, slotOf, isSeriesOf}

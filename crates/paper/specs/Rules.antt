@@ -9,7 +9,6 @@ use Prim.Native.Nat.{ℕ, _+_, _-_, _*_}
 use Rattle.laws.specs.Tests.{_and_, _or_, neg, is, less, upto}
 use Rattle.laws.specs.Lists.{same, find, has, count}
 use Rattle.laws.specs.Order.{first as firstRefusal, along}
-use Rattle.paper.specs.declared.Position.{Position}
 use Rattle.paper.specs.declared.Verdict.{Verdict}
 use Rattle.paper.specs.Layout.{Bytes, Block, zeros, nOf, lead, clockPlus10080, dayOfBook, area, receiver, version, idOf, sender, dayOfMessage, businessType, contractType, inArea, outArea, inParty, outParty, pair, agreement, quantities, quantity}
 use Rattle.paper.specs.Ids.{idWellFormed}
