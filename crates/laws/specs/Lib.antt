@@ -8,5 +8,6 @@ pub mod Order
 pub mod Table
 pub mod Slices
 pub mod Loops
+pub mod Skips
 pub mod InPlace
 pub mod Kit

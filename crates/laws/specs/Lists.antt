@@ -7,6 +7,7 @@ pub mod Search
 pub mod Apart
 pub mod Count
 pub mod Keep
+pub mod Both
 
 -- two lists of numbers are the same
 unfoldable pub same : List ℕ → List ℕ → Bool

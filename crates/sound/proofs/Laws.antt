@@ -1,5 +1,4 @@
 -- What the proofs of the code say of a book, beside the laws of the crates below.
-pub mod Lists
 pub mod Used
 pub mod Groups
 pub mod Book

@@ -1,13 +1,12 @@
 -- The links made, from the last block back, and followed: what they leave out is of other buckets.
 use mathlib.Core.Path.{_≡_, refl, sym, ap, _∙_}
 use mathlib.Core.Bool.{Bool, true, false, cond}
-use mathlib.Core.List.{List, [], _∷_}
+use mathlib.Core.List.{List, []}
 use Prim.Native.Nat.{ℕ, zero, suc, _+_, _-_, _/_, _≤_, _<_}
-use native.Mathlib.Nat.{add-zero}
 use native.Mathlib.Numerals.{add-one}
 use native.Mathlib.Omega.{arith}
 use lib.ListN.{length, drop, getD, set, length-drop, length-set, drop-of-length-le}
-use lib.Seq.{drop-cons, drop-drop, getD-drop, getD-set-same, getD-set-other}
+use lib.Seq.{drop-drop, getD-drop, getD-set-same, getD-set-other}
 use Rattle.laws.specs.Tests.{_and_, is, less}
 use Rattle.laws.specs.Tests.Laws.{split, clash, is-yes, is-no, is-equal, less-yes, less-no, and-left, and-right, and-both}
 use Rattle.laws.specs.Lists.{place}
@@ -15,34 +14,12 @@ use Rattle.laws.specs.Lists.Same.{same-yes}
 use Rattle.laws.specs.Lists.Each.{all-imply, every-all, all-getD}
 use Rattle.laws.specs.Cut.{cut}
 use Rattle.laws.specs.Cut.Laws.{cut-length}
-use Rattle.laws.specs.Loops.{Step, placeFrom, place-start, place-go, place-hit}
+use Rattle.laws.specs.Loops.{placeFrom, place-start, place-go, place-hit}
+use Rattle.laws.specs.Skips.{Skips, none-passes, first-passes, step-at}
 use Rattle.paper.specs.Layout.{Bytes, Block, zeros, pair}
 use Rattle.paper.specs.Book.{isSeries, isSeriesOf}
 use Rattle.index.specs.declared.By.{By}
 use Rattle.index.specs.Linked.{bucket, keyOf, ownIn, seriesIn, Heads, Nexts, Links, ownWith, Found}
-
--- ---- of a list, the first that passes p. What f makes of the rest takes no account of those that do not pass; of none it makes z.
-
-pub record Skips {X R : Type 0} (p : X → Bool) (f : ℕ → List X → R) (z : R) : Type 0 where
-  pub skip : (k : ℕ) (x : X) (xs : List X) → p x ≡ false → f k (x ∷ xs) ≡ f (k + 1) xs
-  pub empty : (k : ℕ) → f k [] ≡ z
-
-module _ {X R : Type 0} (p : X → Bool) (f : ℕ → List X → R) (z : R) (s : Skips p f z) where
-  none-passes : (t : ℕ) (r : List X) → 0 ≡ placeFrom t p r → f t r ≡ z
-  unfolding placeFrom
-  none-passes t [] e = s .empty t
-  none-passes t (x ∷ xs) e = split (p x) (λ u. absurd (let y : 0 ≡ t + 1 = rw u at e in omega arith)) (λ u. s .skip t x xs u ∙ none-passes (t + 1) xs (rw u at e))
-
-  first-passes : (d : X) (t : ℕ) (r : List X) (n : ℕ) → suc n ≡ placeFrom t p r → (m : ℕ) × (n ≡ t + m) × (m < length r) × (p (getD r m d) ≡ true) × (f t r ≡ f (t + m) (drop m r))
-  unfolding placeFrom
-  first-passes d t [] n e = absurd (omega arith)
-  first-passes d t (x ∷ xs) n e = split (p x)
-      (λ u. let y : suc n ≡ t + 1 = rw u at e in (0, omega arith, omega arith, u, ap (λ k. f k (x ∷ xs)) (sym (add-zero t))))
-      (λ u.
-      let h = first-passes d (t + 1) xs n (rw u at e) in
-      let m : ℕ = h .0 in
-      let k : t + 1 + m ≡ t + suc m = omega arith in
-      (suc m, omega (arith, h .1), omega (arith, h .2), h .3, s .skip t x xs u ∙ h .4 ∙ ap (λ j. f j (drop m xs)) k))
 
 -- ---- a walk on its way, at the place at: w is what f makes of the blocks from there on
 
@@ -76,9 +53,6 @@ module _ {R : Type 0} (p : Block → Bool) (f : ℕ → List Block → R) (z : R
         };
         later = λ _. omega arith;
       }
-
-pub step-at : (l : List Block) (i : ℕ) → i < length l → Step l i (getD l i [])
-step-at l i h = record { rest = drop-cons l i [] h ∙ ap (λ k. getD l i [] ∷ drop k l) (sym (add-one i)) }
 
 -- how far it is to the end
 unfoldable pub left : ℕ → ℕ
@@ -136,13 +110,13 @@ module _ (p : ℕ → Block → Bool) (s : Bytes) (heads nexts : List ℕ) (few 
 
     module _ {t : Bool} {x : Block} (e : x ≡ getD l (at - 1) []) (r : t ≡ q x) where
       pub found : t ≡ true → at ≡ place q l
-      found y = let z : at - 1 + 1 ≡ at = omega arith in sym z ∙ place-hit q (o .rest n) (step-at l (at - 1) (o .inside n)) (ap q (sym e) ∙ sym r ∙ y)
+      found y = let z : at - 1 + 1 ≡ at = omega arith in sym z ∙ place-hit q (o .rest n) (step-at [] l (at - 1) (o .inside n)) (ap q (sym e) ∙ sym r ∙ y)
 
       module _ (y : t ≡ false) {m : ℕ} (k : m ≡ getD nexts (at - 1) 0) where
         pub going : On (p g) q l (place q l) m
         going =
             walk-next p s g (λ k. placeFrom k q) 0 (sought (p g) q f) nexts (a .go-on) (at - 1) (o .inside n) (o .linked n) k
-            (place-go q (o .rest n) (step-at l (at - 1) (o .inside n)) (ap q (sym e) ∙ sym r ∙ y))
+            (place-go q (o .rest n) (step-at [] l (at - 1) (o .inside n)) (ap q (sym e) ∙ sym r ∙ y))
 
         pub nearer : left m < left at
         nearer = walk-nearer p s g (λ k. placeFrom k q) 0 (sought (p g) q f) nexts (a .go-on) few o n k
@@ -163,7 +137,7 @@ module _ (p : ℕ → Block → Bool) (l : List Block) where
   module _ (k : ℕ) (i : k < length l) where
     turn : (g : ℕ) → placeFrom k (p g) (drop k l) ≡ cond (p g (getD l k [])) (k + 1) (placeFrom (k + 1) (p g) (drop (k + 1) l))
     unfolding placeFrom
-    turn g = ap (placeFrom k (p g)) (step-at l k i .rest)
+    turn g = ap (placeFrom k (p g)) (step-at [] l k i .rest)
 
     module _ (h n : List ℕ) (a : Heads p l (suc k) h) where
       heads-left-at : ((g : ℕ) → p g (getD l k []) ≡ false) → Heads p l k h

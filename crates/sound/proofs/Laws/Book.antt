@@ -24,7 +24,7 @@ use Rattle.paper.specs.Book.{dayBlock, slots, isFree, used}
 use Rattle.paper.specs.Sound.{daySound, usedFirst, sound}
 use Rattle.facts.specs.Book.{free-right}
 use Rattle.sound.specs.Used.{eachUsed, filledSound}
-use Rattle.sound.proofs.Laws.Lists.{every-join}
+use Rattle.laws.specs.Lists.Both.{every-join}
 
 whole : (n : ℕ) → n % 512 ≡ 0 → n ≡ 512 * (n / 512)
 whole n e = omega (arith, div-add-mod' n 512)

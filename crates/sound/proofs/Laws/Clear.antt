@@ -10,7 +10,7 @@ use Rattle.laws.specs.Lists.{every}
 use Rattle.paper.specs.Layout.{Block}
 use Rattle.paper.specs.Sound.{sameSender, sameSeries}
 use Rattle.facts.specs.Book.{sender-not-series}
-use Rattle.index.specs.Linked.Laws.{Skips, step-at}
+use Rattle.laws.specs.Skips.{Skips, step-at}
 use Rattle.sound.specs.Used.{clashes}
 use Rattle.sound.specs.Links.{group, inGroup}
 
@@ -40,8 +40,8 @@ module _ (a : Block) where
   module _ (l : List Block) {k : ℕ} {w t : Bool} (e : w ≡ clear k (drop k l)) (h : k < length l) (q : t ≡ clashes a (getD l k [])) where
     pub clear-go : t ≡ false → w ≡ clear (k + 1) (drop (k + 1) l)
     unfolding every _and_ neg
-    clear-go f = e ∙ ap (clear k) (step-at l k h .rest) ∙ rw (sym q ∙ f)
+    clear-go f = e ∙ ap (clear k) (step-at [] l k h .rest) ∙ rw (sym q ∙ f)
 
     pub clear-hit : t ≡ true → false ≡ w
     unfolding every _and_ neg
-    clear-hit f = sym (e ∙ ap (clear k) (step-at l k h .rest) ∙ rw (sym q ∙ f))
+    clear-hit f = sym (e ∙ ap (clear k) (step-at [] l k h .rest) ∙ rw (sym q ∙ f))

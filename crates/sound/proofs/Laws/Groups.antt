@@ -17,7 +17,7 @@ use Rattle.paper.specs.Layout.{Bytes, Block, sendersSlot}
 use Rattle.paper.specs.Book.{isSender, isSeries}
 use Rattle.paper.specs.Sound.{ownerSound, seriesSound}
 use Rattle.facts.specs.Book.{no-block-sender, series-not-sender, numbered-inside}
-use Rattle.index.specs.Linked.Laws.{Skips, step-at}
+use Rattle.laws.specs.Skips.{Skips, step-at}
 use Rattle.sound.specs.Used.{usedFields}
 use Rattle.sound.specs.Links.{group, inGroup, Grouped}
 
@@ -72,5 +72,5 @@ counted-few s g n m h e = omega (arith, count-length (inGroup g) (cut 512 s), cu
 pub counted : (g n : ℕ) (l : List Block) {k w : ℕ} → w ≡ n + count (inGroup g) (drop k l) → k < length l → inGroup g (getD l k []) ≡ true → w ≡ n + 1 + count (inGroup g) (drop (k + 1) l)
 unfolding count
 counted g n l {k} e h t =
-    let s : count (inGroup g) (drop k l) ≡ 1 + count (inGroup g) (drop (k + 1) l) = ap (count (inGroup g)) (step-at l k h .rest) ∙ rw t (omega arith) in
+    let s : count (inGroup g) (drop k l) ≡ 1 + count (inGroup g) (drop (k + 1) l) = ap (count (inGroup g)) (step-at [] l k h .rest) ∙ rw t (omega arith) in
     omega arith

@@ -21,7 +21,7 @@ use Rattle.paper.specs.Book.{isSender, isSeries, isSenderBlockOf, slotOf, isSer
 use Rattle.paper.specs.Sound.{senderSound, countSound, usedSound, sameSender, sameSeries}
 use Rattle.sound.specs.Used.{usedFields, countRight, clashes, linkedSound, eachUsed}
 use Rattle.sound.specs.Links.{group, inGroup}
-use Rattle.sound.proofs.Laws.Lists.{every-both, apart-either}
+use Rattle.laws.specs.Lists.Both.{every-both, apart-either}
 
 -- ---- a sender's slot and its count
 
