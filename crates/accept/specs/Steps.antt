@@ -2,14 +2,15 @@
 use mathlib.Core.Path.{_≡_}
 use mathlib.Core.Bool.{Bool, true, cond}
 use mathlib.Core.List.{List, [], _∷_, _++_}
-use Prim.Native.Nat.{ℕ, zero, suc, _+_, _<_}
+use Prim.Native.Nat.{ℕ, zero, suc, _+_, _*_, _/_, _≤_, _<_}
 use lib.ListN.{length, take, getD}
 use Rattle.laws.specs.Tests.{_and_, _or_, neg, is}
-use Rattle.laws.specs.Lists.{place, has}
+use Rattle.laws.specs.Lists.{place, has, until}
+use Rattle.laws.specs.Cut.{cut}
 use Rattle.laws.specs.InPlace.{over}
-use Rattle.paper.specs.Layout.{Block, sendersSlot, pair, withSendersSlot}
-use Rattle.paper.specs.Book.{isSeries, pairIs, isSeriesOfPair}
-use Rattle.paper.specs.Acceptance.{senderKept}
+use Rattle.paper.specs.Layout.{Bytes, Block, sendersSlot, pair, withSendersSlot}
+use Rattle.paper.specs.Book.{isFree, isSeries, pairIs, isSeriesOfPair}
+use Rattle.paper.specs.Acceptance.{senderKept, usedAfter}
 
 -- a is laid over l from place s on, which gives r and ends at e
 pub record Laid (s : ℕ) (a l r : List Block) (e : ℕ) : Type 0 where
@@ -28,6 +29,23 @@ addedAt slot place y = cond (is place 0) (withSendersSlot slot y ∷ []) []
 unfoldable pub addedTo : (slot : ℕ) (places : List ℕ) (series : List Block) (k : ℕ) → List Block
 addedTo slot places series zero = []
 addedTo slot places series (suc k) = addedTo slot places series k ++ addedAt slot (getD places k 0) (getD series k [])
+
+-- those of a message whose series lie in bytes
+abbrev pub addedOf : (slot : ℕ) (places : List ℕ) (series : Bytes) → List Block
+addedOf slot places series = addedTo slot places (cut 512 series) (length series / 512)
+
+-- all new blocks: had is the slot that the sender has, 0 where it has none
+abbrev pub newOf : (had slot : ℕ) (places : List ℕ) (h : Block) (series : Bytes) → List Block
+newOf had slot places h series = senderIfNew had h (cut 512 series) ++ addedOf slot places series
+
+-- a is laid over the slots from place s on, which gives after and ends at e
+pub record LaidInto (s : ℕ) (a : List Block) (slots after : Bytes) (e : ℕ) : Type 0 where
+  pub laid : Laid s a (cut 512 slots) (cut 512 after) e
+  pub fits : 512 * e ≤ length slots
+
+-- a book's slots l after the acceptance
+abbrev pub acceptedOver : (n : ℕ) (h : Block) (series l : List Block) → List Block
+acceptedOver n h series l = over (usedAfter n (until isFree l) h series) l
 
 -- of each block the number of the first series that has its pair
 unfoldable pub Numbers : List Block → List Block → List ℕ → Type 0

@@ -1,10 +1,9 @@
 // "New blocks take the lowest free slots, sender first, then new series in message order".
 ghost use mathlib.Core.Path.{_≡_};
-ghost use mathlib.Core.List.{_++_};
 ghost use Prim.Native.Nat.{_+_, _*_, _/_, _≤_};
 ghost use lib.ListN.{length};
 ghost use Rattle.laws.specs.Cut.{cut};
-ghost use Rattle.accept.specs.Steps.{Laid, addedAt, addedTo, senderIfNew};
+ghost use Rattle.accept.specs.Steps.{Laid, LaidInto, addedAt, addedOf, newOf, senderIfNew};
 use super::renewal::write_sender;
 use super::renewal::write_series;
 use index::wide;
@@ -32,8 +31,8 @@ fn add_series(
     slot: Slot,
     places: &[u16; 1000],
 ) -> usize
-    requires { ⌜ (length (now series) / 512 ≤ 1000) × (512 * (start + length (addedTo (slot .0) (now places) (cut 512 (now series)) (length (now series) / 512))) ≤ length (now slots)) ⌝ }
-    ensures { λ r. ⌜ Laid start (addedTo (slot .0) (now (places .entry)) (cut 512 (now (series .entry))) (length (now (series .entry)) / 512)) (cut 512 (now (slots .entry))) (cut 512 (now (slots .exit))) r ⌝ }
+    requires { ⌜ (length (now series) / 512 ≤ 1000) × (512 * (start + length (addedOf (slot .0) (now places) (now series))) ≤ length (now slots)) ⌝ }
+    ensures { λ r. ⌜ Laid start (addedOf (slot .0) (now (places .entry)) (now (series .entry))) (cut 512 (now (slots .entry))) (cut 512 (now (slots .exit))) r ⌝ }
 {
     let count = series.len() / 512;
     let mut next = start;
@@ -68,8 +67,8 @@ pub fn add_blocks(
     slot: Slot,
     places: &[u16; 1000],
 ) -> usize
-    requires { ⌜ (512 * (used + length (senderIfNew (had .0) (now head) (cut 512 (now series)) ++ addedTo (slot .0) (now places) (cut 512 (now series)) (length (now series) / 512))) ≤ length (now slots)) × (length (now head) ≡ 512) × (length (now series) / 512 ≤ 1000) ⌝ }
-    ensures { λ r. ⌜ (Laid used (senderIfNew (had .0) (now (head .entry)) (cut 512 (now (series .entry))) ++ addedTo (slot .0) (now (places .entry)) (cut 512 (now (series .entry))) (length (now (series .entry)) / 512)) (cut 512 (now (slots .entry))) (cut 512 (now (slots .exit))) r) × (512 * r ≤ length (now (slots .entry))) ⌝ }
+    requires { ⌜ (512 * (used + length (newOf (had .0) (slot .0) (now places) (now head) (now series))) ≤ length (now slots)) × (length (now head) ≡ 512) × (length (now series) / 512 ≤ 1000) ⌝ }
+    ensures { λ r. ⌜ LaidInto used (newOf (had .0) (slot .0) (now (places .entry)) (now (head .entry)) (now (series .entry))) (now (slots .entry)) (now (slots .exit)) r ⌝ }
 {
     let start = add_sender(slots, used, head, series, had);
     add_series(slots, start, series, slot, places)

@@ -7,12 +7,12 @@ ghost use lib.ListN.{length};
 ghost use Rattle.laws.specs.Tests.{is};
 ghost use Rattle.laws.specs.Lists.{until};
 ghost use Rattle.laws.specs.Cut.{cut};
-ghost use Rattle.laws.specs.InPlace.{over};
 ghost use Rattle.paper.specs.Book.{isFree, used};
 ghost use Rattle.paper.specs.Message.{headOf, seriesOf};
-ghost use Rattle.paper.specs.Acceptance.{usedAfter, accepted};
+ghost use Rattle.paper.specs.Acceptance.{accepted};
 ghost use Rattle.index.specs.Handed.{Handed};
 ghost use Rattle.accept.specs.Fits.{Placing, Fits};
+ghost use Rattle.accept.specs.Steps.{acceptedOver};
 use adding::add_blocks;
 use layout::n_of;
 use paper::Slot;
@@ -49,7 +49,7 @@ fn accept_into(
     numbers: &[u16; 1000],
 )
     requires { ⌜ Placing (standing .n) (length (cut 512 (now slots))) (until isFree (cut 512 (now slots))) (now head) (cut 512 (now series)) × Handed (until isFree (cut 512 (now slots))) (now head) (cut 512 (now series)) (standing .used) (standing .slot) (now places) (now numbers) ⌝ }
-    ensures { λ _. ⌜ cut 512 (now (slots .exit)) ≡ over (usedAfter (standing .n) (until isFree (cut 512 (now (slots .entry)))) (now (head .entry)) (cut 512 (now (series .entry)))) (cut 512 (now (slots .entry))) ⌝ }
+    ensures { λ _. ⌜ cut 512 (now (slots .exit)) ≡ acceptedOver (standing .n) (now (head .entry)) (cut 512 (now (series .entry))) (cut 512 (now (slots .entry))) ⌝ }
 {
     let had = standing.slot;
     let used = standing.used;

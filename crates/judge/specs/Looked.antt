@@ -16,7 +16,7 @@ use Rattle.index.specs.Linked.{Found}
 use Rattle.index.specs.Handed.{Handed}
 use Rattle.judge.specs.declared.series.Searched.{Searched}
 use Rattle.judge.specs.declared.Judged.{Judged}
-use Rattle.judge.specs.Order.{judgedBy}
+use Rattle.judge.specs.Order.{eachSeriesOf, judgedBy}
 
 -- us are the used slots of a sound book, series those of a message that rule 2 lets pass
 pub record Taken (us series : List Block) : Type 0 where
@@ -34,6 +34,11 @@ pub record Looked (us series : List Block) (slot : ℕ) (firstIds firstPairs sto
 
 abbrev pub LookedIn : (us series : List Block) (found : Searched) (places : List ℕ) → Type 0
 LookedIn us series found places = Looked us series (found .slot) (found .«first_ids») (found .«first_pairs») (found .«stored_ids») places
+
+-- the verdict on a message's series, and the slot of each
+pub record Walked (v : Verdict) (d : Block) (us : List Block) (slot : ℕ) (message : Bytes) (places : List ℕ) : Type 0 where
+  pub verdict : v ≡ eachSeriesOf d us slot message
+  pub stored : Found slot Pair us (seriesOf message) places
 
 -- the verdict past rules 1 and 2; and of a message that passes, of each of its series the slot, and of each used slot the message's series with its pair
 pub record JudgedFrom (v : Verdict) (d : Block) (us : List Block) (slot free : ℕ) (message : Bytes) (places numbers : List ℕ) : Type 0 where

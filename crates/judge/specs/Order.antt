@@ -5,9 +5,9 @@ use Prim.Native.Nat.{ℕ}
 use Rattle.laws.specs.Lists.{keep}
 use Rattle.paper.specs.declared.Verdict.{Verdict}
 use Rattle.paper.specs.Layout.{Bytes, Block, sender}
-use Rattle.paper.specs.Book.{isSeriesOf, ownSender, ownSeries}
+use Rattle.paper.specs.Book.{numbered, isSeriesOf, ownSender, ownSeries}
 use Rattle.paper.specs.Message.{headOf, seriesOf}
-use Rattle.paper.specs.Rules.{_then_, broken, rule8, rule9, rule10, valuesVerdict, eachSeries, judge}
+use Rattle.paper.specs.Rules.{_then_, broken, rule8, rule9, rule10, valuesVerdict, eachSeries, lastVerdict, judge}
 use Rattle.rules.specs.ByPlaces.{rule7By}
 
 -- rules 7 to 10 on the series y, by whether another has its id or its pair
@@ -25,6 +25,10 @@ seriesBy day x head otherwise number y = formBy day head otherwise number y then
 -- a message's series in turn, beside those that the sender in a slot has among the used slots us
 unfoldable pub eachSeriesOf : (day : Block) (us : List Block) (slot : ℕ) (message : Bytes) → Verdict
 eachSeriesOf day us slot message = eachSeries day (keep (isSeriesOf slot) us) (headOf message) [] 1 (seriesOf message)
+
+-- rules 16 and 17, beside what the sender in a slot has among the used slots us
+unfoldable pub lastVerdictOf : (us : List Block) (slot free : ℕ) (series : List Block) → Verdict
+lastVerdictOf us slot free series = lastVerdict (numbered us slot) (keep (isSeriesOf slot) us) free series
 
 -- the whole, by the used slots us
 unfoldable pub judgedBy : (day : Block) (us : List Block) (free : ℕ) (message : Bytes) → Verdict

@@ -2,15 +2,15 @@
 ghost use mathlib.Core.Path.{_≡_};
 ghost use mathlib.Core.Bool.{true};
 ghost use lib.ListN.{length};
-ghost use Rattle.laws.specs.Lists.{keep};
 ghost use Rattle.laws.specs.Cut.{cut};
 ghost use Rattle.paper.specs.Layout.{sender};
-ghost use Rattle.paper.specs.Book.{numbered, slotOf, isSeriesOf};
+ghost use Rattle.paper.specs.Book.{slotOf};
 ghost use Rattle.paper.specs.Message.{headOf, seriesOf};
-ghost use Rattle.paper.specs.Rules.{broken, headVerdict, lastVerdict, verdict};
+ghost use Rattle.paper.specs.Rules.{broken, headVerdict, verdict};
 ghost use Rattle.eic.specs.Table.{IsTable};
 ghost use Rattle.index.specs.declared.By.the-variants.{Pair};
 ghost use Rattle.index.specs.Linked.{Found};
+ghost use Rattle.judge.specs.Order.{lastVerdictOf};
 ghost use Rattle.judge.specs.Looked.{Taken, JudgedFrom, JudgedBook};
 
 pub mod order;
@@ -72,7 +72,7 @@ fn last_verdict(
     numbers: &[u16; 1000],
 ) -> Verdict
     requires { ⌜ Taken (cut 512 (now us)) (cut 512 (now series)) × Found (standing .slot) Pair (cut 512 (now us)) (cut 512 (now series)) (now places) × Found 0 Pair (cut 512 (now series)) (cut 512 (now us)) (now numbers) ⌝ }
-    ensures { λ r. ⌜ r ≡ lastVerdict (numbered (cut 512 (now (us .entry))) (standing .slot)) (keep (isSeriesOf (standing .slot)) (cut 512 (now (us .entry)))) (standing .free) (cut 512 (now (series .entry))) ⌝ }
+    ensures { λ r. ⌜ r ≡ lastVerdictOf (cut 512 (now (us .entry))) (standing .slot) (standing .free) (cut 512 (now (series .entry))) ⌝ }
 {
     let slot = standing.slot;
     let r16 = broken(rule_16(us, Slot(slot), numbers), 16, 0, 0);

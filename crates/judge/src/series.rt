@@ -5,10 +5,8 @@ ghost use Rattle.laws.specs.Cut.{cut};
 ghost use Rattle.paper.specs.Message.{seriesOf};
 ghost use Rattle.paper.specs.Rules.{valuesVerdict};
 ghost use Rattle.eic.specs.Table.{IsTable};
-ghost use Rattle.index.specs.declared.By.the-variants.{Pair};
-ghost use Rattle.index.specs.Linked.{Found};
 ghost use Rattle.judge.specs.Order.{formBy, seriesBy, eachSeriesOf};
-ghost use Rattle.judge.specs.Looked.{Taken, LookedIn};
+ghost use Rattle.judge.specs.Looked.{Taken, LookedIn, Walked};
 use super::order::broken;
 use super::order::fine;
 use super::order::first_of_four;
@@ -139,7 +137,7 @@ pub fn walk(
     places: &mut [u16; 1000],
 ) -> Verdict
     requires { ⌜ IsTable (now table) × Taken (cut 512 (now us)) (seriesOf (now message)) × (length (now places) ≡ 1000) ⌝ }
-    ensures { λ r. ⌜ (r ≡ eachSeriesOf (now (d .entry)) (cut 512 (now (us .entry))) (slot .0) (now (message .entry))) × Found (slot .0) Pair (cut 512 (now (us .entry))) (seriesOf (now (message .entry))) (now (places .exit)) ⌝ }
+    ensures { λ r. ⌜ Walked r (now (d .entry)) (cut 512 (now (us .entry))) (slot .0) (now (message .entry)) (now (places .exit)) ⌝ }
 {
     let series = series_of(message);
     let mut first_ids = [0u16; 1000];

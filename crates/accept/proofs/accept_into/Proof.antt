@@ -40,14 +40,14 @@ renew-all-requires c κs =
       omega (arith, length-take-le (512 * a .args .standing .used) (b .add-blocks .last .0) (renewed-end (c .before)), used-fits _ (now (a .args .slots)) _ (now (a .args .series)) (a .pre .0) _ _ _ _ (a .pre .1) .1),
       a .pre .0 .head-whole,
       omega (arith, s),
-      renew-numbers _ (now (a .args .slots)) _ (now (a .args .series)) (a .pre .0) _ _ _ _ (a .pre .1) _ (t .slot-for .ensures) (b .add-blocks .last .0) (b .add-blocks .kept .0) _ (b .add-blocks .ensures .0),
+      renew-numbers _ (now (a .args .slots)) _ (now (a .args .series)) (a .pre .0) _ _ _ _ (a .pre .1) _ (t .slot-for .ensures) (b .add-blocks .last .0) (b .add-blocks .kept .0) _ (b .add-blocks .ensures .laid),
     )
 
 mul-end : tie.Need-mul-end
 mul-end c =
     let b = c .before .before .before .before .before .before in
     let a = b .before .before .before .before .before .before in
-    omega (arith, b .add-blocks .ensures .1, a .pre .0 .few, cut-length 512 (now (a .args .slots)))
+    omega (arith, b .add-blocks .ensures .fits, a .pre .0 .few, cut-length 512 (now (a .args .slots)))
 
 marked-end : tie.Need-slice-relend-prefix-remark-all
 marked-end c =
@@ -56,7 +56,7 @@ marked-end c =
     let b = p .before .before .before in
     let a = b .before .before .before .before .before .before in
     let k = b .add-blocks .kept .0 in
-    omega (arith, b .add-blocks .ensures .1, back-length (r .renew-all .last .0) (b .add-blocks .last .0) (512 * a .args .standing .used) (renewed-end (p .before)) (r .renew-all .kept .0))
+    omega (arith, b .add-blocks .ensures .fits, back-length (r .renew-all .last .0) (b .add-blocks .last .0) (512 * a .args .standing .used) (renewed-end (p .before)) (r .renew-all .kept .0))
 
 marked-part : tie.Need-slice-aggregate-remark-all
 marked-part c = sym (length-take-le _ _ (marked-end (c .before)))
@@ -69,8 +69,8 @@ remark-all-requires c κs =
     let t = b .before .before in
     let a = t .before .before .before .before in (
       a .pre .0 .small,
-      omega (arith, marked-part c, b .add-blocks .ensures .1, a .pre .0 .few, cut-length 512 (now (a .args .slots))),
-      remark-others _ (now (a .args .slots)) _ (now (a .args .series)) (a .pre .0) _ _ _ _ (a .pre .1) _ (t .slot-for .ensures) (b .add-blocks .last .0) (b .add-blocks .kept .0) _ (b .add-blocks .ensures .0)
+      omega (arith, marked-part c, b .add-blocks .ensures .fits, a .pre .0 .few, cut-length 512 (now (a .args .slots))),
+      remark-others _ (now (a .args .slots)) _ (now (a .args .series)) (a .pre .0) _ _ _ _ (a .pre .1) _ (t .slot-for .ensures) (b .add-blocks .last .0) (b .add-blocks .kept .0) _ (b .add-blocks .ensures .laid)
           (r .renew-all .last .0) (r .renew-all .kept .0 ∙ sym (renewed-part p)) (r .renew-all .ensures),
     )
 
@@ -83,7 +83,7 @@ returns c =
     let b = p .before .before .before in
     let t = b .before .before in
     let a = t .before .before .before .before in
-    into-is _ (now (a .args .slots)) _ (now (a .args .series)) (a .pre .0) _ _ _ _ (a .pre .1) _ (t .slot-for .ensures) (b .add-blocks .last .0) (b .add-blocks .kept .0) _ (b .add-blocks .ensures .0)
+    into-is _ (now (a .args .slots)) _ (now (a .args .series)) (a .pre .0) _ _ _ _ (a .pre .1) _ (t .slot-for .ensures) (b .add-blocks .last .0) (b .add-blocks .kept .0) _ (b .add-blocks .ensures .laid)
     (r .renew-all .last .0) (r .renew-all .kept .0 ∙ sym (renewed-part p)) (r .renew-all .ensures) (m .remark-all .last .0) (m .remark-all .kept .0 ∙ sym (marked-part q)) (m .remark-all .ensures)
 
 pub accept-into-spec : {M : Type 1} → statement M

@@ -2,13 +2,12 @@
 use mathlib.Core.Path.{_≡_, _∙_}
 use mathlib.Core.List.{List}
 use Prim.Native.Nat.{ℕ}
-use Rattle.laws.specs.Lists.{keep}
 use Rattle.paper.specs.declared.Verdict.{Verdict}
 use Rattle.paper.specs.Layout.{Bytes, Block, sender}
-use Rattle.paper.specs.Book.{numbered, slotOf, isSeriesOf, ownSender, ownSeries}
+use Rattle.paper.specs.Book.{numbered, slotOf, ownSender, ownSeries}
 use Rattle.paper.specs.Message.{headOf, seriesOf}
-use Rattle.paper.specs.Rules.{_then_, headVerdict, lastVerdict, judge}
-use Rattle.judge.specs.Order.{eachSeriesOf, judgedBy}
+use Rattle.paper.specs.Rules.{_then_, headVerdict, judge}
+use Rattle.judge.specs.Order.{eachSeriesOf, lastVerdictOf, judgedBy}
 use Rattle.judge.proofs.Laws.Order.{then-hit, then-pass}
 
 module _ (d : Block) (us : List Block) (slot free : ℕ) (m : Bytes) (q : slot ≡ slotOf us (sender (headOf m))) where
@@ -16,10 +15,10 @@ module _ (d : Block) (us : List Block) (slot free : ℕ) (m : Bytes) (q : slot �
   head = headVerdict d (numbered us slot) (headOf m)
 
   abbrev last : Verdict
-  last = lastVerdict (numbered us slot) (keep (isSeriesOf slot) us) free (seriesOf m)
+  last = lastVerdictOf us slot free (seriesOf m)
 
   in-order : (head then eachSeriesOf d us slot m then last) ≡ judgedBy d us free m
-  unfolding judgedBy judge eachSeriesOf ownSender ownSeries
+  unfolding judgedBy judge eachSeriesOf lastVerdictOf ownSender ownSeries
   in-order = rw q
 
   pub judged-head : {v : Verdict} → v ≡ head → (v .number ≡ 0 → ⊥) → v ≡ judgedBy d us free m

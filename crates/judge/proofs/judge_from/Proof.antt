@@ -23,7 +23,7 @@ returns-2 c =
     let h = v .before in
     let n = h .before in
     let a = n .before .before .before .before in
-    record { verdict = judged-series _ _ _ _ _ (a .pre .1) (rw (n .numbered .ensures, h .head-of .ensures) at (v .head-verdict .ensures)) (f .if1 .left) (w .walk .ensures .0) (c .if2 .taken); found = λ z. absurd (c .if2 .taken z) }
+    record { verdict = judged-series _ _ _ _ _ (a .pre .1) (rw (n .numbered .ensures, h .head-of .ensures) at (v .head-verdict .ensures)) (f .if1 .left) (w .walk .ensures .verdict) (c .if2 .taken); found = λ z. absurd (c .if2 .taken z) }
 
 look-up-requires : tie.Need-look-up-requires
 look-up-requires c κs =
@@ -39,7 +39,7 @@ last-verdict-requires c κs =
     let s = u .before .before in
     let w = s .before .before .before in
     let a = w .before .before .before .before .before .before .before .before .before .before in
-    (rw (s .series-of .ensures) (a .pre .2), rw (s .series-of .ensures) (w .walk .ensures .1), u .look-up .ensures)
+    (rw (s .series-of .ensures) (a .pre .2), rw (s .series-of .ensures) (w .walk .ensures .stored), u .look-up .ensures)
 
 returns-3 : tie.Need-returns-3
 returns-3 c =
@@ -53,8 +53,8 @@ returns-3 c =
     let n = h .before in
     let a = n .before .before .before .before in
     record {
-      verdict = judged-last _ _ _ _ _ (a .pre .1) (rw (n .numbered .ensures, h .head-of .ensures) at (v .head-verdict .ensures)) (f .if1 .left) (w .walk .ensures .0) (f2 .if2 .left) (rw (s .series-of .ensures) at (c .last-verdict .ensures));
-      found = λ z. (w .walk .ensures .1, rw (s .series-of .ensures) at (u .look-up .ensures));
+      verdict = judged-last _ _ _ _ _ (a .pre .1) (rw (n .numbered .ensures, h .head-of .ensures) at (v .head-verdict .ensures)) (f .if1 .left) (w .walk .ensures .verdict) (f2 .if2 .left) (rw (s .series-of .ensures) at (c .last-verdict .ensures));
+      found = λ z. (w .walk .ensures .stored, rw (s .series-of .ensures) at (u .look-up .ensures));
     }
 
 pub judge-from-spec : {M : Type 1} → statement M

@@ -3,13 +3,14 @@ use Rattle.laws.specs.Kit.{_∙_, refl, sym}
 use denote.Ref.{now}
 use Rattle.laws.specs.Cut.Laws.{cut-length}
 use Rattle.paper.specs.Rules.{lastVerdict}
+use Rattle.judge.specs.Order.{lastVerdictOf}
 use Rattle.judge.proofs.Laws.Order.{broken-by, then-hit, then-pass}
 use Rattle.judge.proofs.Laws.Places.{rule-16-found, rule-17-found, sizes}
 use Rattle.judge.proofs.last_verdict.Statement.{statement}
 use Rattle.judge.proofs.last_verdict.Tie as tie
 
 returns : tie.Need-returns
-unfolding lastVerdict
+unfolding lastVerdictOf lastVerdict
 returns c =
     let b = c .before .before in
     let a = b .before .before .before .before in
@@ -19,7 +20,7 @@ rule-17-requires : tie.Need-rule-17-requires
 rule-17-requires c κs = let a = c .before .before .before .before .before .before .before in (sizes _ _ refl (a .pre .0) .1, a .pre .1 .room)
 
 returns-2 : tie.Need-returns-2
-unfolding lastVerdict
+unfolding lastVerdictOf lastVerdict
 returns-2 c =
     let r = c .before in
     let n = r .before in

@@ -27,7 +27,7 @@ returns c =
     let s = r .before .before .before .before in
     let a = s .before .before .before .before .before in
     let l = both-laid (a .args .used) (cut 512 (now (a .args .slots))) (senderIfNew (a .args .had .0) (now (a .args .head)) (cut 512 (now (a .args .series)))) (addedTo (a .args .slot .0) (now (a .args .places)) (cut 512 (now (a .args .series))) (length (now (a .args .series)) / 512)) (omega (arith, a .pre .0, cut-length 512 (now (a .args .slots)))) (s .add-sender .ensures) (r .add-series .ensures) in
-    (l, omega (arith, a .pre .0, l .end))
+    record { laid = l; fits = omega (arith, a .pre .0, l .end) }
 
 pub add-blocks-spec : {M : Type 1} → statement M
 add-blocks-spec = tie.close (tie.spec add-sender-requires add-series-requires (λ c. omega arith) returns)

@@ -35,7 +35,7 @@ returns : tie.Need-returns
 returns c =
     let l4 = c .before .before in
     let s = l4 .before .before .before .before .before .before .before .before in
-    (c .each-series .ensures, rw (s .series-of .ensures) at (l4 .look-up4 .ensures))
+    record { verdict = c .each-series .ensures; stored = rw (s .series-of .ensures) at (l4 .look-up4 .ensures) }
 
 pub walk-spec : {M : Type 1} → statement M
 walk-spec =
