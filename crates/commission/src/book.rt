@@ -1,10 +1,10 @@
-// The cases on a book: area 10YAT-APG------L, receiver 14XAT-APCS-----Q, day 20190131, n 96.
-use crate::message;
-use commission_leaves::line;
+// The cases on a book of eight blocks: area 10YAT-APG------L, receiver 14XAT-APCS-----Q, day 20190131, n 96.
+use crate::line;
+use desk_text::numbers::put_number;
+use desk_text::put::put;
 use field::part_of;
 use paper::Minute;
 use paper::Position;
-use stream::parts::within;
 
 fn opened(book: &mut [u8], lead: u16) -> bool {
     let number = opening::open(
@@ -18,8 +18,13 @@ fn opened(book: &mut [u8], lead: u16) -> bool {
     line::number(b"opening", 0, number)
 }
 
+// The minute is one of the day, which the day block counts from 10,080.
+fn clock(book: &mut [u8], minute: u16) -> bool {
+    line::number(b"clock", 0, clock::clock(book, Minute(minute)).number)
+}
+
 // 25 where the position is open, 26 where it is closed: the book has no series.
-fn final_number(what: &[u8], book: &[u8], position: usize, expected: u32) -> bool {
+fn final_number(book: &[u8], what: &[u8], position: usize, expected: u32) -> bool {
     let answer = read::final_value(
         book,
         b"14XBILANZGR-1--F",
@@ -29,84 +34,64 @@ fn final_number(what: &[u8], book: &[u8], position: usize, expected: u32) -> boo
     line::number(what, expected, answer.number)
 }
 
-fn clock(book: &mut [u8], minute: u16) -> bool {
-    let answer = clock::clock(book, Minute(minute));
-    line::number(b"clock", 0, answer.number)
-}
-
 fn closed_at_45(book: &mut [u8]) -> bool {
     let a = opened(book, 45) & clock(book, 10095);
     let b = final_number(
-        b"lead 45, clock 15: final at position 5, still open",
         book,
+        b"lead 45, clock 15: final at position 5, still open",
         5,
         25,
     );
     let c = clock(book, 10096);
-    a
-        & b
-        & c
-        & final_number(
-            b"lead 45, clock 16: final at position 5, closed",
-            book,
-            5,
-            26,
-        )
+    let d = final_number(
+        book,
+        b"lead 45, clock 16: final at position 5, closed",
+        5,
+        26,
+    );
+    a & b & c & d
 }
 
 fn closed_at_0(book: &mut [u8]) -> bool {
     let a = opened(book, 0) & clock(book, 10080);
     let b = final_number(
-        b"lead 0, clock 0: final at position 1, still open",
         book,
+        b"lead 0, clock 0: final at position 1, still open",
         1,
         25,
     );
     let c = clock(book, 10081);
-    a & b & c & final_number(b"lead 0, clock 1: final at position 1, closed", book, 1, 26)
+    let d = final_number(book, b"lead 0, clock 1: final at position 1, closed", 1, 26);
+    a & b & c & d
 }
 
-pub fn closed_positions() -> bool {
-    let mut book = [0u8; 1024];
-    let a = closed_at_45(&mut book);
-    a & closed_at_0(&mut book)
+// A message comes from its text, as the program makes one.
+fn submitted(book: &mut [u8], text: &[u8]) -> u32 {
+    let mut room = [0u8; 1536];
+    let k = message_text::message_from_text(text, &mut room).length;
+    submit::submit(book, part_of(&room, 0, k)).number
 }
 
-// A message of the seller with its one series at 45,000 throughout.
-fn sellers(book: &mut [u8], what: &[u8], version: u16, series_version: u16, expected: u32) -> bool {
-    let mut message = [0u8; 1024];
-    sellers_message(&mut message, version, series_version);
-    line::number(what, expected, submit::submit(book, &message).number)
-}
-
-fn sellers_first(message: &mut [u8], version: u16, series: u16) {
-    let k = within(512, message);
-    message::sender(
-        &mut message[..k],
-        version,
-        series,
-        b"BILANZ",
-        b"14XBILANZGR-1--F",
+// The seller's message: its first series at 45,000 kW throughout and of version 1, then what else there is.
+fn sellers_text(text: &mut [u8], version: usize, more: &[u8]) -> usize {
+    let a = put(
+        text,
+        0,
+        b"message BILANZ\nsender 14XBILANZGR-1--F\nreceiver 14XAT-APCS-----Q\nday 20190131\nn 96\nversion ",
     );
-}
-
-fn sellers_series(message: &mut [u8], version: u16) {
-    if message.len() < 1024 {
-        return;
-    }
-    message::names(
-        &mut message[512..1024],
-        version,
-        b"TS0001",
-        b"14XBG-EMPFANG--0",
-        b"14XBILANZGR-1--F",
+    let b = put_number(text, a, version);
+    let c = put(
+        text,
+        b,
+        b"\nseries TS0001\nversion 1\narea 10YAT-APG------L\nin 14XBG-EMPFANG--0\nout 14XBILANZGR-1--F\n1-96 45\n",
     );
-    message::fill(&mut message[512..1024], 45000);
+    put(text, c, more)
 }
 
-fn sellers_message(message: &mut [u8], version: u16, series_version: u16) {
-    sellers_first(message, version, 1);
-    sellers_series(message, series_version);
+fn sellers(book: &mut [u8], what: &[u8], version: usize, more: &[u8], expected: u32) -> bool {
+    let mut text = [0u8; 512];
+    let k = sellers_text(&mut text, version, more);
+    line::number(what, expected, submitted(book, part_of(&text, 0, k)))
 }
 
 fn kept_version(book: &[u8], what: &[u8], expected: u32) -> bool {
@@ -115,101 +100,46 @@ fn kept_version(book: &[u8], what: &[u8], expected: u32) -> bool {
 }
 
 fn unchanged(book: &mut [u8]) -> bool {
-    let a = opened(book, 45) & sellers(book, b"the seller's first message", 1, 1, 0);
-    let b = sellers(book, b"message with nothing changed", 2, 1, 0);
+    let a = opened(book, 45) & sellers(book, b"the seller's first message", 1, b"", 0);
+    let b = sellers(book, b"message with nothing changed", 2, b"", 0);
     a & b & kept_version(book, b"and the series version kept", 1)
 }
 
+// The book is left as by the cases before.
 fn next_version(book: &mut [u8]) -> bool {
-    let a = sellers(book, b"stored version 2, version 2 again", 2, 1, 6);
-    let b = sellers(book, b"stored version 2, version 4", 4, 1, 6);
-    a & b & sellers(book, b"stored version 2, version 3", 3, 1, 0)
+    let a = sellers(book, b"stored version 2, version 2 again", 2, b"", 6);
+    let b = sellers(book, b"stored version 2, version 4", 4, b"", 6);
+    a & b & sellers(book, b"stored version 2, version 3", 3, b"", 0)
 }
 
-fn versions_in(book: &mut [u8]) -> bool {
-    let a = unchanged(book);
-    a & next_version(book)
-}
-
-pub fn versions() -> bool {
-    let mut book = [0u8; 4096];
-    versions_in(&mut book)
-}
-
-fn late_series(message: &mut [u8], kilowatts: u32) {
-    if message.len() < 1536 {
-        return;
-    }
-    message::names(
-        &mut message[1024..1536],
+// A new series in the seller's second message, with a quantity at position 4, which is closed at clock 15 and lead 45.
+fn late_values(book: &mut [u8]) -> bool {
+    let a = opened(book, 45) & sellers(book, b"the seller's first message", 1, b"", 0);
+    let b = clock(book, 10095);
+    let c = sellers(
+        book,
+        b"new series with 5 kW at a closed position",
         2,
-        b"TS0002",
-        b"14XBILANZGR-1--F",
-        b"14XBG-EMPFANG--0",
+        b"series TS0002\narea 10YAT-APG------L\nin 14XBILANZGR-1--F\nout 14XBG-EMPFANG--0\n4 0.005\n",
+        14,
     );
-    message::set(&mut message[1024..1536], 3, kilowatts);
-}
-
-// The seller's next message: a new series with a quantity at position 4, which is closed at clock 15 and lead 45.
-fn late_message(message: &mut [u8], kilowatts: u32) {
-    sellers_first(message, 2, 2);
-    sellers_series(message, 1);
-    late_series(message, kilowatts);
-}
-
-fn late(book: &mut [u8], what: &[u8], kilowatts: u32, expected: u32) -> bool {
-    let mut message = [0u8; 1536];
-    late_message(&mut message, kilowatts);
-    line::number(what, expected, submit::submit(book, &message).number)
-}
-
-fn late_in(book: &mut [u8]) -> bool {
-    let a = opened(book, 45)
-        & sellers(book, b"the seller's first message", 1, 1, 0)
-        & clock(book, 10095);
-    let b = late(book, b"new series with 5 kW at a closed position", 5, 14);
-    a & b & late(book, b"new series with 0 kW there", 0, 0)
-}
-
-pub fn late_values() -> bool {
-    let mut book = [0u8; 4096];
-    late_in(&mut book)
-}
-
-fn buyers_first(message: &mut [u8]) {
-    let k = within(512, message);
-    message::sender(&mut message[..k], 1, 1, b"EMPFANG", b"14XBG-EMPFANG--0");
-}
-
-// The buyer files the same but for 44,000 at position 2.
-fn buyers_series(message: &mut [u8]) {
-    if message.len() < 1024 {
-        return;
-    }
-    message::names(
-        &mut message[512..1024],
-        1,
-        b"FPL01",
-        b"14XBG-EMPFANG--0",
-        b"14XBILANZGR-1--F",
-    );
-    message::fill(&mut message[512..1024], 45000);
-    message::set(&mut message[512..1024], 1, 44000);
-}
-
-fn buyers_message(message: &mut [u8]) {
-    buyers_first(message);
-    buyers_series(message);
-}
-
-fn buyers(book: &mut [u8]) -> bool {
-    let mut message = [0u8; 1024];
-    buyers_message(&mut message);
-    line::number(
-        b"the buyer's message",
+    let d = sellers(
+        book,
+        b"new series with 0 kW there",
+        2,
+        b"series TS0002\narea 10YAT-APG------L\nin 14XBILANZGR-1--F\nout 14XBG-EMPFANG--0\n4 0\n",
         0,
-        submit::submit(book, &message).number,
-    )
+    );
+    a & b & c & d
+}
+
+// The buyer files the same but for 44,000 kW at position 2.
+fn buyers(book: &mut [u8]) -> bool {
+    let number = submitted(
+        book,
+        b"message EMPFANG\nversion 1\nsender 14XBG-EMPFANG--0\nreceiver 14XAT-APCS-----Q\nday 20190131\nn 96\nseries FPL01\narea 10YAT-APG------L\nin 14XBG-EMPFANG--0\nout 14XBILANZGR-1--F\n1-96 45\n2 44\n",
+    );
+    line::number(b"the buyer's message", 0, number)
 }
 
 fn listed(book: &[u8]) -> bool {
@@ -222,12 +152,13 @@ fn listed(book: &[u8]) -> bool {
     )
 }
 
-fn listing_in(book: &mut [u8]) -> bool {
-    let a = opened(book, 45) & sellers(book, b"the seller's message", 1, 1, 0) & buyers(book);
+fn listing(book: &mut [u8]) -> bool {
+    let a = opened(book, 45) & sellers(book, b"the seller's message", 1, b"", 0) & buyers(book);
     a & listed(book)
 }
 
-pub fn listing() -> bool {
-    let mut book = [0u8; 4096];
-    listing_in(&mut book)
+pub fn days(book: &mut [u8]) -> bool {
+    let a = closed_at_45(book) & closed_at_0(book);
+    let b = unchanged(book) & next_version(book);
+    a & b & late_values(book) & listing(book)
 }

@@ -1,130 +1,81 @@
--- The desk's answers, a line each: accepted or refused, document 01's number, its reason code, where a rule is broken, what that means, and what was asked for.
-use mathlib.Core.Bool.{Bool, cond}
-use mathlib.Core.List.{List, [], _∷_, _++_}
-use Prim.Native.Nat.{ℕ, zero, suc, _+_}
-use Rattle.laws.specs.Tests.{is, less}
-use Rattle.paper.specs.declared.DayState.{DayState}
-use Rattle.paper.specs.declared.Verdict.{Verdict}
-use Rattle.paper.specs.declared.ClockAnswer.{ClockAnswer}
-use Rattle.paper.specs.declared.MarkAnswer.{MarkAnswer}
-use Rattle.paper.specs.declared.FinalAnswer.{FinalAnswer}
-use Rattle.paper.specs.declared.PlainRunAnswer.{PlainRunAnswer}
-use Rattle.paper.specs.declared.QuantityRead.{QuantityRead}
-use Rattle.paper.specs.Layout.{Bytes, Block, nOf, version, idOf, inParty, outParty, state, first, partner, quantities, entry}
-use Rattle.paper.specs.Ids.{idText}
-use Rattle.paper.specs.Codes.{reasonCode}
-use Rattle.paper.specs.Listing.{text}
-use Rattle.paper.specs.QuantityText.{lastDigits, quantityText}
-use Rattle.desk_text.specs.Numbers.{numberText, minuteText}
-use Rattle.desk_text.specs.Words.{meaning, stateMeaning}
+-- What each command answers, and what it leaves of the book. A command's words are counted from its own name, 0; word 1 is the command.
+use mathlib.Core.Path.{_≡_}
+use Prim.Native.Nat.{ℕ}
+use lib.ListN.{length}
+use Rattle.paper.specs.Layout.{Bytes}
+use Rattle.paper.specs.Eic.{eicValid}
+use Rattle.paper.specs.QuantityText.{quantityRead}
+use Rattle.paper.specs.Rules.{verdict}
+use Rattle.paper.specs.Acceptance.{submitted}
+use Rattle.paper.specs.Opening.{Opening, openNumber, opened}
+use Rattle.paper.specs.Clock.{clockAnswer, clockMoved}
+use Rattle.paper.specs.Readings.{markAnswer, acceptedBlock}
+use Rattle.paper.specs.Finals.{final}
+use Rattle.paper.specs.PlainRun.{plainRun}
+use Rattle.paper.specs.Listing.{listing}
+use Rattle.listing_text.specs.Text.{textLength, textInto}
+use Rattle.desk_text.specs.Put.{Put}
+use Rattle.desk_text.specs.Words.{wordNumbered}
+use Rattle.desk_text.specs.Arguments.{idField, byteValue, wordValue}
+use Rattle.desk_lines.specs.Lines.{verdictLine, numberLine, clockLine, markLine, blockLine, finalLine, plainLine, eicLine, quantityLine}
+use Rattle.desk_answers.specs.declared.Told.{Told}
+use Rattle.desk_answers.specs.declared.Numbers.{Numbers}
+use Rattle.desk_answers.specs.declared.Change.{Change}
+use Rattle.desk_answers.specs.declared.Change.the-variants.{Open, Clock, Submit}
+use Rattle.desk_answers.specs.declared.Question.{Question}
+use Rattle.desk_answers.specs.declared.Question.the-variants.{Mark, Block, Final, Plain, List, Eic, Kw}
 
--- ---- the parts of a line
+-- the answer has this number; its line, in a buffer that was x and is y, is this text
+pub record Tells (number : ℕ) (text : Bytes) (r : Told) (x y : Bytes) : Type 0 where
+  pub answer : r .number ≡ number
+  pub line : Put 0 text (r .length) x y
 
--- a word and a number
-unfoldable pub worded : Bytes → ℕ → Bytes
-worded word x = word ++ numberText x
+-- ---- what changes a book
 
--- nothing where the number is 0
-unfoldable pub named : Bytes → ℕ → Bytes
-named word x = cond (is x 0) [] (worded word x)
+-- the parameters of an opening: two numbers, and words 6 to 8
+unfoldable pub opening : (numbers : Numbers) (words : Bytes) → Opening
+opening numbers words =
+    record {
+      n = byteValue (numbers .n);
+      lead = wordValue (numbers .lead);
+      day = wordNumbered 6 words;
+      area = wordNumbered 7 words;
+      receiver = wordNumbered 8 words;
+    }
 
--- A53 behind a space, A04 with its zero; nothing where a number has no code
-unfoldable pub codeText : ℕ → Bytes
-codeText code = cond (is code 0) [] (text " A" ++ lastDigits 2 code)
+unfoldable pub changeNumber : (what : Change) (book given : Bytes) → ℕ
+changeNumber (Open numbers) book words = openNumber book (opening numbers words)
+changeNumber (Clock minute) book given = (clockAnswer book (minute .0)) .number
+changeNumber Submit book message = (verdict book message) .number
 
-unfoldable pub status : ℕ → Bytes
-status number = cond (is number 0) (text "accepted ") (text "refused ")
+unfoldable pub changeLine : (what : Change) (book given : Bytes) → Bytes
+changeLine (Open numbers) book words = numberLine (openNumber book (opening numbers words))
+changeLine (Clock minute) book given = clockLine (clockAnswer book (minute .0))
+changeLine Submit book message = verdictLine (verdict book message)
 
--- nothing needs to be explained of an acceptance
-unfoldable pub reason : ℕ → Bytes
-reason number = cond (is number 0) [] (text ": " ++ meaning number)
+unfoldable pub changed : (what : Change) (book given : Bytes) → Bytes
+changed (Open numbers) book words = opened book (opening numbers words)
+changed (Clock minute) book given = clockMoved book (minute .0)
+changed Submit book message = submitted book message
 
--- status, number and code
-unfoldable pub head : ℕ → Bytes
-head number = status number ++ numberText number ++ codeText (reasonCode number)
+-- ---- what is asked
 
--- where a rule is broken
-unfoldable pub place : ℕ → ℕ → Bytes
-place series position = named (text " series ") series ++ named (text " position ") position
+unfoldable pub lineOf : (question : Question) (book words : Bytes) → Bytes
+lineOf Mark book words = markLine (markAnswer book (wordNumbered 3 words) (idField (wordNumbered 4 words)))
+lineOf Block book words =
+    blockLine ((markAnswer book (wordNumbered 3 words) (idField (wordNumbered 4 words))) .number) (acceptedBlock book (wordNumbered 3 words) (idField (wordNumbered 4 words)))
+lineOf (Final position) book words = finalLine (final book (wordNumbered 3 words) (wordNumbered 4 words) position)
+lineOf Plain book words = plainLine (plainRun book)
+lineOf List book words = listing book
+lineOf Eic book words = eicLine (eicValid (wordNumbered 2 words))
+lineOf Kw book words = quantityLine (quantityRead (wordNumbered 2 words))
 
--- a whole answer but for what was asked for and the newline
-unfoldable pub answerText : ℕ → ℕ → ℕ → Bytes
-answerText number series position = head number ++ place series position ++ reason number
-
--- a quantity in megawatts, as printing gives it
-unfoldable pub megawatts : ℕ → Bytes
-megawatts kilowatts = cond (less 9999999 kilowatts) [] (quantityText kilowatts)
-
--- ---- what was asked for, of an accepted call
-
-unfoldable pub ended : Bytes → Bytes
-ended line = line ++ 10 ∷ []
-
--- an answer, then what it tells if the call is accepted
-unfoldable pub telling : ℕ → Bytes → Bytes
-telling number told = ended (answerText number 0 0 ++ cond (is number 0) told [])
-
-unfoldable pub verdictLine : Verdict → Bytes
-verdictLine v = ended (answerText (v .number) (v .series) (v .position .0))
-
-unfoldable pub numberLine : ℕ → Bytes
-numberLine number = ended (answerText number 0 0)
-
-unfoldable pub dayText : DayState → Bytes
-dayText day = worded (text ": n ") (day .n) ++ worded (text " lead ") (day .lead) ++ text " clock " ++ minuteText (day .clock .0)
-
--- the state is told of a refused clock too, but on 1 there is none
-unfoldable pub clockLine : ClockAnswer → Bytes
-clockLine a = ended (answerText (a .number) 0 0 ++ cond (is (a .number) 1) [] (dayText (a .state)))
-
-unfoldable pub markText : ℕ → ℕ → ℕ → Bytes
-markText state first partner = worded (text "state ") state ++ worded (text " first ") first ++ worded (text " partner ") partner ++ text ", " ++ stateMeaning state
-
-unfoldable pub tellsMark : MarkAnswer → Bytes
-tellsMark a = text ": " ++ markText (a .state) (a .first .0) (a .partner .0)
-
-unfoldable pub markLine : MarkAnswer → Bytes
-markLine a = telling (a .number) (tellsMark a)
-
-unfoldable pub tellsFinal : FinalAnswer → Bytes
-tellsFinal a = text ": " ++ megawatts (a .kilowatts) ++ text " MW"
-
-unfoldable pub finalLine : FinalAnswer → Bytes
-finalLine a = telling (a .number) (tellsFinal a)
-
-unfoldable pub plainText : Bool → Bytes
-plainText holds = cond holds (text ": yes, every kept mark and net is true") (text ": no, a kept mark or net is not true")
-
-unfoldable pub plainLine : PlainRunAnswer → Bytes
-plainLine a = telling (a .number) (plainText (a .holds))
-
-unfoldable pub tellsQuantity : QuantityRead → Bytes
-tellsQuantity r = worded (text ": ") (r .kilowatts) ++ text " kW, printed " ++ megawatts (r .kilowatts)
-
-unfoldable pub quantityLine : QuantityRead → Bytes
-quantityLine r = telling (r .number) (tellsQuantity r)
-
-unfoldable pub eicLine : Bool → Bytes
-eicLine valid = cond valid (text "yes, a valid EIC\n") (text "no, not a valid EIC\n")
-
--- the first k quantities, a space before each
-unfoldable pub quantitiesText : Bytes → ℕ → Bytes
-quantitiesText q zero = []
-quantitiesText q (suc k) = quantitiesText q k ++ (32 ∷ megawatts (entry q k))
-
-unfoldable pub nameText : Block → Bytes
-nameText x = text ": series " ++ idText (idOf x) ++ worded (text " version ") (version x)
-
-unfoldable pub partiesText : Block → Bytes
-partiesText x = text " in " ++ inParty x ++ text " out " ++ outParty x ++ text " "
-
--- id, version, parties and mark
-unfoldable pub seriesText : Block → Bytes
-seriesText x = nameText x ++ partiesText x ++ markText (state x) (first x) (partner x)
-
-unfoldable pub tellsBlock : Block → Bytes
-tellsBlock x = seriesText x ++ text "; MW" ++ quantitiesText (quantities x) (nOf x)
-
--- number is that of the mark's call, which tells an unsound book from an unknown series
-unfoldable pub blockLine : ℕ → Block → Bytes
-blockLine number x = telling number (tellsBlock x)
+-- the buffer was x and is y, r bytes of which are the answer; a listing that has no room leaves it as it was
+unfoldable pub Answered : (question : Question) (book words : Bytes) (r : ℕ) (x y : Bytes) → Type 0
+Answered List book words r x y = (r ≡ textLength (listing book) (length x)) × (y ≡ textInto (listing book) x)
+Answered Mark book words r x y = Put 0 (lineOf Mark book words) r x y
+Answered Block book words r x y = Put 0 (lineOf Block book words) r x y
+Answered (Final position) book words r x y = Put 0 (lineOf (Final position) book words) r x y
+Answered Plain book words r x y = Put 0 (lineOf Plain book words) r x y
+Answered Eic book words r x y = Put 0 (lineOf Eic book words) r x y
+Answered Kw book words r x y = Put 0 (lineOf Kw book words) r x y

@@ -1,2 +1,2 @@
--- The lines that the program desk answers.
+-- What each command answers, and what it leaves of the book.
 pub mod Answers

@@ -1,40 +1,68 @@
-// Files read whole, and replaced whole or not at all.
+// Files read whole, and replaced whole or not at all: the one way of every change and of every reading.
 ghost use Rattle.io.specs.Counts.{Counts};
+use desk_answers::Change;
+use desk_answers::Question;
+use desk_answers::Told;
+use desk_text::arguments::book_length;
 use desk_text::put::put;
+use desk_text::words::line_numbered;
+use desk_text::words::word;
+use field::part_of;
+use field::within;
 use libc::STDOUT_FILENO;
-use stream::parts::within;
+
+pub mod arguments;
+pub mod messages;
+
+// The length of what is not loaded: no room has as many bytes.
+pub const NOT_LOADED: usize = usize::MAX;
+
+// What stands in the way, by the line of `failed` that says it.
+const MISSING: usize = 0;
+
+const NOT_OPENED: usize = 1;
+
+const NOT_READ: usize = 2;
+
+const NO_BOOK: usize = 3;
+
+pub const NO_MESSAGE: usize = 4;
+
+pub const NO_TEXT: usize = 5;
+
+const ANOTHER_DESK: usize = 6;
+
+const NOT_MADE: usize = 7;
+
+const NOT_WRITTEN: usize = 8;
+
+const NOT_NAMED: usize = 9;
 
 pub fn say(text: &[u8]) {
     io::write_all(STDOUT_FILENO, text);
 }
 
+fn say_why(why: usize) {
+    let lines =
+        b"there is no such file\nthe file cannot be opened\nthe file cannot be read\nthe file is longer than a book of 1001 blocks\nthe file is longer than a message of 201 blocks\nthe file is longer than the text of any message\nthe file is there; another desk changes the book, or one was cut off and the file is to be removed\nthe file cannot be made\nthe new book cannot be written\nthe new book cannot take this name\n";
+    say(line_numbered(lines, why));
+}
+
 // A line on what stands in the way, which is no answer of document 01's.
-pub fn failed(path: &[u8], why: &[u8]) {
+fn failed(path: &[u8], why: usize) -> usize {
     say(b"failed: ");
     say(path);
     say(b": ");
-    say(why);
+    say_why(why);
     say(b"\n");
+    NOT_LOADED
 }
 
-pub struct Loaded {
-    pub whole: bool,
-    pub length: usize,
-}
-
-fn not_loaded(path: &[u8], why: &[u8]) -> Loaded {
-    failed(path, why);
-    Loaded {
-        whole: false,
-        length: 0,
-    }
-}
-
-fn not_opened(path: &[u8]) -> Loaded {
+fn not_opened(path: &[u8]) -> usize {
     if os::errno() == libc::ENOENT {
-        return not_loaded(path, b"there is no such file");
+        return failed(path, MISSING);
     }
-    not_loaded(path, b"the file cannot be opened")
+    failed(path, NOT_OPENED)
 }
 
 // Behind the last byte that fits: 0 at the file's end, negative where a read failed.
@@ -43,55 +71,51 @@ fn one_more(fd: i32) -> isize {
     libc::read(fd, &mut byte)
 }
 
-// The whole file into the buffer, or a line that says why not.
-pub fn load(path: &[u8], buffer: &mut [u8], too_long: &[u8]) -> Loaded {
+// The whole file into the room, and its length; or a line that says why not.
+pub fn load(path: &[u8], room: &mut [u8], too_long: usize) -> usize {
     let fd = os::open_read(path);
     if fd < 0 {
         return not_opened(path);
     }
-    let length = io::read_full(fd, buffer);
+    let length = io::read_full(fd, room);
     let more = one_more(fd);
     libc::close(fd);
     if more < 0 {
-        return not_loaded(path, b"the file cannot be read");
+        return failed(path, NOT_READ);
     }
     if 0 < more {
-        return not_loaded(path, too_long);
+        return failed(path, too_long);
     }
-    Loaded {
-        whole: true,
-        length,
-    }
+    length
 }
 
+// ---- a change
+
 // The name of the file beside a book that the new book is written to. One that the buffer has no room for fills it, and is too long for the system.
-pub fn beside(path: &[u8], name: &mut [u8]) -> usize
+fn beside(path: &[u8], name: &mut [u8]) -> usize
     ensures { λ r. ⌜ Counts r (now (name .exit)) ⌝ }
 {
     let behind = put(name, 0, path);
-    let k = within(behind, name);
-    let end = put(name, k, b".new");
+    let end = put(name, behind, b".new");
     within(end, name)
 }
 
 // Made before the book is read, and only where it is not there yet: so no two desks change one book at a time.
-pub fn begin(name: &[u8]) -> i32 {
+fn begin(name: &[u8]) -> i32 {
     let fd = os::create(name);
-    if fd < 0 {
-        if os::errno() == libc::EEXIST {
-            failed(
-                name,
-                b"the file is there; another desk changes the book, or one was cut off and the file is to be removed",
-            );
-        } else {
-            failed(name, b"the file cannot be made");
-        }
+    if fd >= 0 {
+        return fd;
     }
+    if os::errno() == libc::EEXIST {
+        failed(name, ANOTHER_DESK);
+        return fd;
+    }
+    failed(name, NOT_MADE);
     fd
 }
 
 // Nothing is changed.
-pub fn abandon(fd: i32, name: &[u8]) {
+fn abandon(fd: i32, name: &[u8]) {
     libc::close(fd);
     os::unlink(name);
 }
@@ -103,17 +127,100 @@ fn written(fd: i32, book: &[u8]) -> bool {
     all & (synced >= 0) & (closed >= 0)
 }
 
+fn not_replaced(name: &[u8], path: &[u8], why: usize) -> bool {
+    failed(path, why);
+    os::unlink(name);
+    false
+}
+
 // The new book takes the old one's name in one step; false, and the old book stays, where it can't.
-pub fn replace(fd: i32, name: &[u8], path: &[u8], book: &[u8]) -> bool {
+fn replace(fd: i32, name: &[u8], path: &[u8], book: &[u8]) -> bool {
     if !written(fd, book) {
-        failed(name, b"the new book cannot be written");
-        os::unlink(name);
-        return false;
+        return not_replaced(name, name, NOT_WRITTEN);
     }
     if os::rename(name, path) < 0 {
-        failed(path, b"the new book cannot take this name");
-        os::unlink(name);
-        return false;
+        return not_replaced(name, path, NOT_NAMED);
     }
     true
+}
+
+// An acceptance is told once the new book has its name, a refusal once the old one is left.
+fn settle(fd: i32, name: &[u8], path: &[u8], told: Told, book: &[u8], line: &[u8]) {
+    let k = told.length;
+    if told.number != 0 {
+        abandon(fd, name);
+        say(part_of(line, 0, k));
+        return;
+    }
+    if replace(fd, name, path, book) {
+        say(part_of(line, 0, k));
+    }
+}
+
+// The call runs on the book in its room, and what it says decides whether the book is kept.
+fn run(what: Change, fd: i32, name: &[u8], path: &[u8], book: &mut [u8], given: &[u8]) {
+    let mut line = [0u8; 256];
+    let told = desk_answers::changes::change(what, book, given, &mut line);
+    settle(fd, name, path, told, book, &line);
+}
+
+// An opening does not look at what stood in the file before.
+fn room_for(what: Change, path: &[u8], room: &mut [u8]) -> usize {
+    match what {
+        Change::Open(numbers) => book_length(numbers.blocks),
+        _ => load(path, room, NO_BOOK),
+    }
+}
+
+fn change_in(what: Change, fd: i32, name: &[u8], path: &[u8], room: &mut [u8], given: &[u8]) {
+    let length = room_for(what, path, room);
+    if length == NOT_LOADED {
+        abandon(fd, name);
+        return;
+    }
+    let k = within(length, room);
+    run(what, fd, name, path, &mut room[..k], given);
+}
+
+fn change_beside(what: Change, name: &[u8], path: &[u8], given: &[u8]) {
+    let fd = begin(name);
+    if fd < 0 {
+        return;
+    }
+    let mut room = [0u8; 512512];
+    change_in(what, fd, name, path, &mut room, given);
+}
+
+// The one way of every change: a file is made beside the book, the book loaded, the call run, the new book kept or not, and the answer told.
+pub fn change(what: Change, path: &[u8], given: &[u8]) {
+    let mut name = io::buffer();
+    let n = beside(path, &mut name);
+    change_beside(what, &name[..n], path, given);
+}
+
+// ---- a reading
+
+fn answer_in(question: Question, book: &[u8], words: &[u8]) {
+    let mut line = [0u8; 5590];
+    let k = desk_answers::readings::answer(question, book, words, &mut line);
+    say(part_of(&line, 0, k));
+}
+
+fn ask_in(question: Question, room: &mut [u8], words: &[u8]) {
+    let k = load(word(words, 2), room, NO_BOOK);
+    if k == NOT_LOADED {
+        return;
+    }
+    answer_in(question, part_of(room, 0, k), words);
+}
+
+// The one way of every reading: the book loaded, the answer said.
+pub fn ask(question: Question, words: &[u8]) {
+    let mut room = [0u8; 512512];
+    ask_in(question, &mut room, words);
+}
+
+// What is asked of no book.
+pub fn ask_alone(question: Question, words: &[u8]) {
+    answer_in(question, b"", words);
 }

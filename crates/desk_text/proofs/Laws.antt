@@ -1,4 +1,4 @@
--- Laws of the loops: a text put byte by byte, its lines passed by, the command that a word names.
+-- Laws of the loops: a text put byte by byte, its pieces passed by, the command that a word names.
 use mathlib.Core.Path.{_≡_, refl, sym, ap, _∙_}
 use mathlib.Core.Bool.{true, false}
 use mathlib.Core.List.{List, _∷_}
@@ -13,10 +13,13 @@ use Rattle.laws.specs.Bytes.Laws.{written-none, written-cons}
 use Rattle.laws.specs.Slices.{written-past}
 use Rattle.desk_text.specs.Put.{within, Put}
 use Rattle.desk_text.specs.Put.Laws.{within-inside, within-past}
-use Rattle.desk_text.specs.Words.{firstLine, pastLine, pastLines, lineNumbered, commands}
+use Rattle.desk_text.specs.Words.{firstPiece, pastPiece, pastPieces, lineNumbered, commands}
 use Rattle.desk_text.specs.Arguments.{commandFrom}
 
 -- ---- put, byte by byte
+
+pub put-past : (at : ℕ) (s x : List ℕ) → length x ≤ at → Put at s (length x) x x
+put-past at s x h = record { size = sym (within-past (at + length s) (length x) (omega arith)); text = sym (written-past at s x h); fits = omega arith }
 
 module _ (s b : List ℕ) (place i : ℕ) where
   pub put-turn : {t : List ℕ} → i < length s → written place (drop i s) b ≡ t → written (place + 1) (drop (i + 1) s) (set b place (getD s i 0)) ≡ t
@@ -33,27 +36,27 @@ module _ (at place i : ℕ) (s x b : List ℕ) (n : length b ≡ length x) (e : 
       let q : at + length s ≡ place = omega arith in
       record { size = sym (within-inside (at + length s) (length x) (omega arith) ∙ q); text = sym (ap (λ l. written place l b) (drop-of-length-le s h) ∙ written-none place b) ∙ w; fits = f }
 
--- ---- lines
+-- ---- pieces
 
-module _ (s : List ℕ) (at k : ℕ) (e : k ≡ length (firstLine (drop at s))) where
-  pub past-line-go : drop (at + k + 1) s ≡ pastLine (drop at s)
-  unfolding pastLine
-  past-line-go =
-      let q : at + k + 1 ≡ at + (length (firstLine (drop at s)) + 1) = omega arith in
-      ap (λ n. drop n s) q ∙ sym (drop-drop (length (firstLine (drop at s)) + 1) at s)
+module _ (end : ℕ) (s : List ℕ) (at k : ℕ) (e : k ≡ length (firstPiece end (drop at s))) where
+  pub past-piece-go : drop (at + k + 1) s ≡ pastPiece end (drop at s)
+  unfolding pastPiece
+  past-piece-go =
+      let q : at + k + 1 ≡ at + (length (firstPiece end (drop at s)) + 1) = omega arith in
+      ap (λ n. drop n s) q ∙ sym (drop-drop (length (firstPiece end (drop at s)) + 1) at s)
 
-  pub past-line-end : at ≤ length s → length s - at ≤ k → drop (length s) s ≡ pastLine (drop at s)
-  past-line-end h l = drop-of-length-le s {i = length s} (omega arith) ∙ sym (drop-of-length-le s {i = at + k + 1} (omega arith)) ∙ past-line-go
+  pub past-piece-end : at ≤ length s → length s - at ≤ k → drop (length s) s ≡ pastPiece end (drop at s)
+  past-piece-end h l = drop-of-length-le s {i = length s} (omega arith) ∙ sym (drop-of-length-le s {i = at + k + 1} (omega arith)) ∙ past-piece-go
 
-pub lines-turn : (left : ℕ) (x y : List ℕ) {t : List ℕ} → 0 < left → y ≡ pastLine x → pastLines left x ≡ t → pastLines (left - 1) y ≡ t
-unfolding pastLines
-lines-turn zero x y h e p = absurd (omega arith)
-lines-turn (suc k) x y h e p = let q : suc k - 1 ≡ k = omega arith in rw (q, e) p
+pub pieces-turn : (end left : ℕ) (x y : List ℕ) {t : List ℕ} → 0 < left → y ≡ pastPiece end x → pastPieces end left x ≡ t → pastPieces end (left - 1) y ≡ t
+unfolding pastPieces
+pieces-turn end zero x y h e p = absurd (omega arith)
+pieces-turn end (suc k) x y h e p = let q : suc k - 1 ≡ k = omega arith in rw (q, e) p
 
-pub lines-end : (left : ℕ) (x : List ℕ) {t : List ℕ} → left ≤ 0 → pastLines left x ≡ t → x ≡ t
-unfolding pastLines
-lines-end zero x h p = p
-lines-end (suc k) x h p = absurd (omega arith)
+pub pieces-end : (end left : ℕ) (x : List ℕ) {t : List ℕ} → left ≤ 0 → pastPieces end left x ≡ t → x ≡ t
+unfolding pastPieces
+pieces-end end zero x h p = p
+pieces-end end (suc k) x h p = absurd (omega arith)
 
 -- ---- the command that a word names, of those from k on
 

@@ -1,7 +1,8 @@
 -- What the desk makes of its arguments.
 use mathlib.Core.Bool.{cond}
 use Prim.Native.Nat.{ℕ, zero, suc, _+_, _*_}
-use lib.ListN.{replicate}
+use lib.ListN.{length, replicate}
+use Rattle.laws.specs.Tests.{less}
 use Rattle.laws.specs.Lists.{same}
 use Rattle.laws.specs.Bytes.{written}
 use Rattle.paper.specs.Layout.{Bytes}
@@ -16,9 +17,9 @@ commandFrom (suc left) k word = cond (same (lineNumbered k commands) word) k (co
 unfoldable pub commandNumber : Bytes → ℕ
 commandNumber word = commandFrom 12 1 word
 
--- an id in its field of sixteen bytes, zero bytes behind it
+-- an id in its field of sixteen bytes, zero bytes behind it; zero bytes alone, which are no series' id, stand for every longer one
 unfoldable pub idField : Bytes → Bytes
-idField id = written 0 id (replicate 16 0)
+idField id = cond (less 16 (length id)) (replicate 16 0) (written 0 id (replicate 16 0))
 
 -- a number too large for its field becomes the field's largest, which no sound day block holds
 unfoldable pub byteValue : ℕ → ℕ
@@ -27,6 +28,6 @@ byteValue x = within x 255
 unfoldable pub wordValue : ℕ → ℕ
 wordValue x = within x 65535
 
--- one block more than a book may have stands for every larger number
+-- no block at all, which is no book, stands for every number above 1,001
 unfoldable pub bookLength : ℕ → ℕ
-bookLength blocks = 512 * within blocks 1002
+bookLength blocks = cond (less 1001 blocks) 0 (512 * blocks)

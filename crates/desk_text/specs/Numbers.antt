@@ -1,22 +1,18 @@
 -- Numbers as decimal text, written and read.
 use mathlib.Core.Bool.{Bool, true, false, cond}
-use mathlib.Core.List.{List, [], _∷_, _++_}
-use Prim.Native.Nat.{ℕ, zero, suc, _+_, _-_, _/_}
+use mathlib.Core.List.{_∷_}
+use Prim.Native.Nat.{ℕ, _+_, _-_}
 use lib.ListN.{length, drop, getD}
 use Rattle.laws.specs.Tests.{_and_, is, less, upto}
 use Rattle.laws.specs.Lists.{every}
 use Rattle.paper.specs.Layout.{Bytes}
 use Rattle.paper.specs.Ids.{digit}
 use Rattle.paper.specs.QuantityText.{lastDigits, decimalFrom}
+use Rattle.quantity.specs.Digits.{placesBy}
 use Rattle.desk_text.specs.declared.NumberRead.{NumberRead}
 use Rattle.desk_text.specs.declared.MinuteRead.{MinuteRead}
 
 -- ---- written
-
--- how many digits a number has, at most k + 1
-unfoldable pub placesBy : ℕ → ℕ → ℕ
-placesBy zero x = 1
-placesBy (suc k) x = cond (less x 10) 1 (1 + placesBy k (x / 10))
 
 -- with no needless zero in front; no number of eight bytes has more than 20 digits
 unfoldable pub numberText : ℕ → Bytes

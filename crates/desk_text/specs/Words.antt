@@ -7,27 +7,33 @@ use Rattle.laws.specs.Lists.{until}
 use Rattle.paper.specs.Layout.{Bytes}
 use Rattle.paper.specs.Listing.{text}
 
--- ---- lines of a text
+-- ---- pieces of a text, each ended by one byte: lines by a newline, the arguments of a command by a zero
 
 -- rows, each ended by a newline
 unfoldable pub lines : List Bytes → Bytes
 lines [] = []
 lines (w ∷ ws) = w ++ 10 ∷ lines ws
 
--- the first line, without the newline that ends it
-unfoldable pub firstLine : Bytes → Bytes
-firstLine s = until (λ x. is x 10) s
+-- the first piece, without the byte that ends it
+unfoldable pub firstPiece : (end : ℕ) (s : Bytes) → Bytes
+firstPiece end s = until (λ x. is x end) s
 
-unfoldable pub pastLine : Bytes → Bytes
-pastLine s = drop (length (firstLine s) + 1) s
+unfoldable pub pastPiece : (end : ℕ) (s : Bytes) → Bytes
+pastPiece end s = drop (length (firstPiece end s) + 1) s
 
-unfoldable pub pastLines : ℕ → Bytes → Bytes
-pastLines zero s = s
-pastLines (suc k) s = pastLines k (pastLine s)
+unfoldable pub pastPieces : (end : ℕ) (k : ℕ) (s : Bytes) → Bytes
+pastPieces end zero s = s
+pastPieces end (suc k) s = pastPieces end k (pastPiece end s)
 
--- line k, counted from 0; empty past the last
-unfoldable pub lineNumbered : ℕ → Bytes → Bytes
-lineNumbered k s = firstLine (pastLines k s)
+-- piece k, counted from 0; empty past the last
+unfoldable pub pieceNumbered : (end : ℕ) (k : ℕ) (s : Bytes) → Bytes
+pieceNumbered end k s = firstPiece end (pastPieces end k s)
+
+unfoldable pub lineNumbered : (k : ℕ) (s : Bytes) → Bytes
+lineNumbered k s = pieceNumbered 10 k s
+
+unfoldable pub wordNumbered : (k : ℕ) (words : Bytes) → Bytes
+wordNumbered k words = pieceNumbered 0 k words
 
 -- ---- what a number means
 

@@ -30,11 +30,14 @@ pub fn command_number(word: &[u8]) -> usize
     0
 }
 
-// Zero bytes stand behind an id shorter than sixteen.
+// Zero bytes stand behind an id shorter than sixteen. A longer one is no series', as zero bytes alone are none's.
 pub fn id_field(id: &[u8]) -> [u8; 16]
     ensures { λ r. ⌜ r ≡ idField (now (id .entry)) ⌝ }
 {
     let mut room = [0u8; 16];
+    if 16 < id.len() {
+        return room;
+    }
     put(&mut room, 0, id);
     room
 }
@@ -59,12 +62,12 @@ pub fn word_value(x: u32) -> u16
     x as u16
 }
 
-// No book has 1,002 blocks.
+// The longest book fills a room of 512,512 bytes; a longer one is none, as no block at all is.
 pub fn book_length(blocks: u32) -> usize
-    ensures { λ r. ⌜ (r ≡ bookLength blocks) × (r ≤ 513024) ⌝ }
+    ensures { λ r. ⌜ (r ≡ bookLength blocks) × (r ≤ 512512) ⌝ }
 {
-    if 1002 < blocks {
-        return 513024;
+    if 1001 < blocks {
+        return 0;
     }
     512 * blocks as usize
 }

@@ -1,65 +1,61 @@
-// The lines of a text, and the words that stand in them.
+// The pieces of a text, and the words that stand in them.
 ghost use mathlib.Core.Path.{_≡_};
 ghost use Prim.Native.Nat.{_≤_};
 ghost use lib.ListN.{length, drop};
 ghost use Rattle.desk_text.specs.Put.{Put};
-ghost use Rattle.desk_text.specs.Words.{firstLine, pastLine, pastLines, lineNumbered, meaning, stateMeaning};
+ghost use Rattle.desk_text.specs.Words.{pastPiece, pastPieces, pieceNumbered, lineNumbered, wordNumbered, meaning, stateMeaning};
 use crate::put::put;
+use field::length_before;
+use field::part_before;
 
-fn line_length(s: &[u8]) -> usize
-    ensures { λ r. ⌜ (r ≡ length (firstLine (now (s .entry)))) × (r ≤ length (now (s .entry))) ⌝ }
-{
-    let mut i = 0;
-    while i < s.len() {
-        if s[i] == 10 {
-            return i;
-        }
-        i += 1;
-    }
-    i
-}
-
-fn first_line(s: &[u8]) -> &[u8]
-    ensures { λ r. ⌜ now r ≡ firstLine (now (s .entry)) ⌝ }
-{
-    let k = line_length(s);
-    &s[..k]
-}
-
-// The place behind the line that starts at `at`.
-fn past_line(s: &[u8], at: usize) -> usize
+// The place behind the piece that starts at `at`.
+fn past_piece(s: &[u8], end: u8, at: usize) -> usize
     requires { ⌜ at ≤ length (now s) ⌝ }
-    ensures { λ r. ⌜ (r ≤ length (now (s .entry))) × (drop r (now (s .entry)) ≡ pastLine (drop at (now (s .entry)))) ⌝ }
+    ensures { λ r. ⌜ (r ≤ length (now (s .entry))) × (drop r (now (s .entry)) ≡ pastPiece end (drop at (now (s .entry)))) ⌝ }
 {
-    let k = line_length(&s[at..]);
+    let k = length_before(&s[at..], end);
     if s.len() - at <= k {
         return s.len();
     }
     at + k + 1
 }
 
-fn past_lines(s: &[u8], k: usize) -> usize
-    ensures { λ r. ⌜ (r ≤ length (now (s .entry))) × (drop r (now (s .entry)) ≡ pastLines k (now (s .entry))) ⌝ }
+fn past_pieces(s: &[u8], end: u8, k: usize) -> usize
+    ensures { λ r. ⌜ (r ≤ length (now (s .entry))) × (drop r (now (s .entry)) ≡ pastPieces end k (now (s .entry))) ⌝ }
 {
     let mut at = 0;
     let mut left = k;
     while 0 < left {
-        at = past_line(s, at);
+        at = past_piece(s, end, at);
         left -= 1;
     }
     at
 }
 
+// A piece by its number; empty past the last.
+pub fn piece_numbered(s: &[u8], end: u8, k: usize) -> &[u8]
+    ensures { λ r. ⌜ now r ≡ pieceNumbered end k (now (s .entry)) ⌝ }
+{
+    let at = past_pieces(s, end, k);
+    part_before(&s[at..], end)
+}
+
+// A row of a table in one text.
 pub fn line_numbered(s: &[u8], k: usize) -> &[u8]
     ensures { λ r. ⌜ now r ≡ lineNumbered k (now (s .entry)) ⌝ }
 {
-    let at = past_lines(s, k);
-    first_line(&s[at..])
+    piece_numbered(s, 10, k)
+}
+
+// The arguments of a command stand one behind the other, a zero byte after each: no argument holds one.
+pub fn word(words: &[u8], k: usize) -> &[u8]
+    ensures { λ r. ⌜ now r ≡ wordNumbered k (now (words .entry)) ⌝ }
+{
+    piece_numbered(words, 0, k)
 }
 
 // Line k has the words of number k.
 pub fn put_meaning(line: &mut [u8], at: usize, number: u32) -> usize
-    requires { ⌜ at ≤ length (now line) ⌝ }
     ensures { λ r. ⌜ Put at (meaning number) r (now (line .entry)) (now (line .exit)) ⌝ }
 {
     let words =
@@ -69,7 +65,6 @@ pub fn put_meaning(line: &mut [u8], at: usize, number: u32) -> usize
 
 // Line k has the words of state k.
 pub fn put_state_meaning(line: &mut [u8], at: usize, state: usize) -> usize
-    requires { ⌜ at ≤ length (now line) ⌝ }
     ensures { λ r. ⌜ Put at (stateMeaning state) r (now (line .entry)) (now (line .exit)) ⌝ }
 {
     let words =

@@ -10,7 +10,7 @@ returns : tie.Need-returns
 returns c =
     let p = c .before .before in
     let d = p .before .before .before .before in
-    called _ (digits-front _ _ _ (search needs) (d .last-digits .ensures)) (p .put .ensures)
+    called _ (digits-front _ _ _ (search needs) (d .put-last-digits .ensures)) (p .put .ensures)
 
 pub put-digits-spec : {M : Type 1} → statement M
 put-digits-spec =

@@ -1,0 +1,12 @@
+-- The test told is the test answered.
+use Rattle.laws.specs.Kit.{needs}
+use Rattle.laws.specs.Tests.{is}
+use Rattle.commission.proofs.line.number.Statement.{statement}
+use Rattle.commission.proofs.line.number.Tie as tie
+
+returns : tie.Need-returns
+unfolding is
+returns c = c .verdict .ensures
+
+pub number-spec : {M : Type 1} → statement M
+number-spec = tie.close (tie.spec (λ c κs. search needs) (search needs) (λ c κs. search needs) (λ c κs. search needs) (search needs) (λ c κs. search needs) (λ c κs. search needs) (λ c κs. search needs) returns)

@@ -1,0 +1,87 @@
+// Messages in files: handed in, and made from their text form.
+use crate::NO_MESSAGE;
+use crate::NO_TEXT;
+use crate::NOT_LOADED;
+use crate::begin;
+use crate::beside;
+use crate::change;
+use crate::load;
+use crate::replace;
+use crate::say;
+use desk_answers::Change;
+use desk_text::words::word;
+use field::part_of;
+use field::within;
+use libc::STDOUT_FILENO;
+
+fn submit_in(words: &[u8], room: &mut [u8]) {
+    let k = load(word(words, 3), room, NO_MESSAGE);
+    if k == NOT_LOADED {
+        return;
+    }
+    change(Change::Submit, word(words, 2), part_of(room, 0, k));
+}
+
+// The message is loaded before the book is touched.
+pub fn submit(words: &[u8]) {
+    let mut room = [0u8; 102912];
+    submit_in(words, &mut room);
+}
+
+fn wrong_line(number: usize) {
+    say(b"refused: line ");
+    io::print_decimal(STDOUT_FILENO, number as u64);
+    say(b" of the text is wrong\n");
+}
+
+fn made(length: usize) {
+    say(b"accepted: a message of ");
+    io::print_decimal(STDOUT_FILENO, length as u64);
+    say(b" bytes\n");
+}
+
+fn write_message(path: &[u8], name: &[u8], message: &[u8]) {
+    let fd = begin(name);
+    if fd < 0 {
+        return;
+    }
+    if replace(fd, name, path, message) {
+        made(message.len());
+    }
+}
+
+fn write_beside(path: &[u8], message: &[u8]) {
+    let mut name = io::buffer();
+    let n = beside(path, &mut name);
+    write_message(path, &name[..n], message);
+}
+
+// Nothing is written of a wrong text.
+fn message_in(path: &[u8], text: &[u8], room: &mut [u8]) {
+    let read = message_text::message_from_text(text, room);
+    if read.line != 0 {
+        wrong_line(read.line);
+        return;
+    }
+    let k = within(read.length, room);
+    write_beside(path, &room[..k]);
+}
+
+fn message_of(path: &[u8], text: &[u8]) {
+    let mut room = [0u8; 102912];
+    message_in(path, text, &mut room);
+}
+
+fn message_by(words: &[u8], room: &mut [u8]) {
+    let k = load(word(words, 2), room, NO_TEXT);
+    if k == NOT_LOADED {
+        return;
+    }
+    message_of(word(words, 3), part_of(room, 0, k));
+}
+
+// The text of the longest message has fewer bytes than the room.
+pub fn message(words: &[u8]) {
+    let mut room = [0u8; 524288];
+    message_by(words, &mut room);
+}

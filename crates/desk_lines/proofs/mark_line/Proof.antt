@@ -1,0 +1,19 @@
+-- The answer, and the newline of a refusal, else the mark.
+use Rattle.laws.specs.Kit.{needs}
+use Rattle.laws.specs.Tests.Laws.{is-equal, is-other}
+use Rattle.paper.specs.Listing.{text}
+use Rattle.desk_lines.specs.Lines.{telling, markLine}
+use Rattle.desk_text.specs.Put.Laws.{then}
+use Rattle.desk_lines.proofs.mark_line.Statement.{statement}
+use Rattle.desk_lines.proofs.mark_line.Tie as tie
+
+returns : tie.Need-returns
+unfolding markLine telling text
+returns c = rw (is-other _ _ (c .before .before .before .before .before .if1 .taken)) (then (c .before .before .before .before .before .before .before .before .before .put-answer-of .ensures) (c .before .before .put .ensures))
+
+returns-2 : tie.Need-returns-2
+unfolding markLine telling text
+returns-2 c = rw (is-equal _ _ (c .before .before .before .before .before .before .before .before .before .before .before .before .before .before .if1 .left)) (then (c .before .before .before .before .before .before .before .before .before .before .before .before .before .before .before .before .before .before .put-answer-of .ensures) (then (then (c .before .before .before .before .before .before .before .before .before .before .before .put2 .ensures) (c .before .before .before .before .before .before .before .put-mark .ensures)) (c .before .before .put3 .ensures)))
+
+pub mark-line-spec : {M : Type 1} → statement M
+mark-line-spec = tie.close (tie.spec (search needs) (search needs) (search needs) (search needs) returns (search needs) (search needs) (search needs) (search needs) (search needs) (search needs) returns-2)

@@ -1,0 +1,14 @@
+-- The parts stand one behind the other.
+use Rattle.laws.specs.Kit.{needs}
+use Rattle.paper.specs.Listing.{text}
+use Rattle.desk_lines.specs.Lines.{dayText}
+use Rattle.desk_text.specs.Put.Laws.{then}
+use Rattle.desk_lines.proofs.put_day.Statement.{statement}
+use Rattle.desk_lines.proofs.put_day.Tie as tie
+
+returns : tie.Need-returns
+unfolding dayText text
+returns c = then (then (then (then (c .before .before .before .before .before .before .before .before .before .before .before .before .before .before .before .before .before .before .before .before .before .before .put-worded .ensures) (c .before .before .before .before .before .before .before .before .before .before .before .before .before .before .before .before .put-worded2 .ensures)) (c .before .before .before .before .before .before .before .before .before .before .before .put .ensures)) (c .before .before .before .before .before .before .before .put-minute .ensures)) (c .before .before .put2 .ensures)
+
+pub put-day-spec : {M : Type 1} → statement M
+put-day-spec = tie.close (tie.spec (search needs) (search needs) (search needs) (search needs) (search needs) (search needs) (search needs) (search needs) (search needs) (search needs) (search needs) (search needs) returns)

@@ -1,0 +1,16 @@
+-- What printing put into the eight bytes, up to the length that it answered, is the quantity's text.
+use Rattle.laws.specs.Kit.{needs, refl, ap, _∙_}
+use lib.ListN.{replicate}
+use Rattle.desk_text.specs.Put.Laws.{called}
+use Rattle.desk_lines.proofs.Laws.{printed-part}
+use Rattle.desk_lines.proofs.put_megawatts.Statement.{statement}
+use Rattle.desk_lines.proofs.put_megawatts.Tie as tie
+
+returns : tie.Need-returns
+returns c =
+    let p = c .before .before in
+    let q = p .before .before .before .before .before .quantity-print .ensures in
+    called _ (rw (q .1, q .0) at (p .before .part-of .ensures) ∙ printed-part _ (replicate 8 0) refl) (p .put .ensures)
+
+pub put-megawatts-spec : {M : Type 1} → statement M
+put-megawatts-spec = tie.close (tie.spec (search needs) (search needs) (search needs) (search needs) (search needs) (search needs) returns)

@@ -1,0 +1,17 @@
+-- Nothing, or the word and the number.
+use Rattle.laws.specs.Kit.{needs}
+use Rattle.laws.specs.Tests.Laws.{is-equal, is-other}
+use Rattle.desk_lines.specs.Lines.{named}
+use Rattle.desk_lines.proofs.put_named.Statement.{statement}
+use Rattle.desk_lines.proofs.put_named.Tie as tie
+
+returns : tie.Need-returns
+unfolding named
+returns c = rw (is-equal _ _ (c .before .before .before .before .before .if1 .taken)) (c .before .before .put .ensures)
+
+returns-2 : tie.Need-returns-2
+unfolding named
+returns-2 c = rw (is-other _ _ (c .before .before .before .before .if1 .left)) (c .before .before .put-worded .ensures)
+
+pub put-named-spec : {M : Type 1} → statement M
+put-named-spec = tie.close (tie.spec (search needs) (search needs) (search needs) returns (search needs) (search needs) returns-2)

@@ -1,0 +1,19 @@
+-- The answer, and the newline of a refusal, else the quantity read and printed again.
+use Rattle.laws.specs.Kit.{needs}
+use Rattle.laws.specs.Tests.Laws.{is-equal, is-other}
+use Rattle.paper.specs.Listing.{text}
+use Rattle.desk_lines.specs.Lines.{telling, quantityLine}
+use Rattle.desk_text.specs.Put.Laws.{then}
+use Rattle.desk_lines.proofs.quantity_line.Statement.{statement}
+use Rattle.desk_lines.proofs.quantity_line.Tie as tie
+
+returns : tie.Need-returns
+unfolding quantityLine telling text
+returns c = rw (is-other _ _ (c .before .before .before .before .before .if1 .taken)) (then (c .before .before .before .before .before .before .before .before .before .put-answer-of .ensures) (c .before .before .put .ensures))
+
+returns-2 : tie.Need-returns-2
+unfolding quantityLine telling text
+returns-2 c = rw (is-equal _ _ (c .before .before .before .before .before .before .before .before .before .before .before .before .before .before .before .before .before .before .before .before .if1 .left)) (then (c .before .before .before .before .before .before .before .before .before .before .before .before .before .before .before .before .before .before .before .before .before .before .before .before .put-answer-of .ensures) (then (then (then (c .before .before .before .before .before .before .before .before .before .before .before .before .before .before .before .before .put-worded .ensures) (c .before .before .before .before .before .before .before .before .before .before .before .put2 .ensures)) (c .before .before .before .before .before .before .before .put-megawatts .ensures)) (c .before .before .put3 .ensures)))
+
+pub quantity-line-spec : {M : Type 1} → statement M
+quantity-line-spec = tie.close (tie.spec (search needs) (search needs) (search needs) (search needs) returns (search needs) (search needs) (search needs) (search needs) (search needs) (search needs) (search needs) (search needs) (search needs) returns-2)

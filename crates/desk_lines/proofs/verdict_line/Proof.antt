@@ -1,0 +1,14 @@
+-- The answer, then the newline.
+use Rattle.laws.specs.Kit.{needs}
+use Rattle.paper.specs.Listing.{text}
+use Rattle.desk_lines.specs.Lines.{verdictLine}
+use Rattle.desk_text.specs.Put.Laws.{then}
+use Rattle.desk_lines.proofs.verdict_line.Statement.{statement}
+use Rattle.desk_lines.proofs.verdict_line.Tie as tie
+
+returns : tie.Need-returns
+unfolding verdictLine text
+returns c = then (c .before .before .before .before .before .before .before .put-answer .ensures) (c .before .before .put .ensures)
+
+pub verdict-line-spec : {M : Type 1} → statement M
+verdict-line-spec = tie.close (tie.spec (search needs) (search needs) (search needs) (search needs) returns)

@@ -1,0 +1,2 @@
+-- The lines that the program desk answers.
+pub mod Lines

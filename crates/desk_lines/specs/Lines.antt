@@ -1,0 +1,110 @@
+-- The desk's answers as lines: accepted or refused, document 01's number, its reason code, where a rule is broken, what that means, and what was asked for.
+use mathlib.Core.Bool.{Bool, cond}
+use mathlib.Core.List.{List, [], _∷_, _++_}
+use Prim.Native.Nat.{ℕ, zero, suc, _+_}
+use Rattle.laws.specs.Tests.{is, less}
+use Rattle.paper.specs.declared.DayState.{DayState}
+use Rattle.paper.specs.declared.Verdict.{Verdict}
+use Rattle.paper.specs.declared.ClockAnswer.{ClockAnswer}
+use Rattle.paper.specs.declared.MarkAnswer.{MarkAnswer}
+use Rattle.paper.specs.declared.FinalAnswer.{FinalAnswer}
+use Rattle.paper.specs.declared.PlainRunAnswer.{PlainRunAnswer}
+use Rattle.paper.specs.declared.QuantityRead.{QuantityRead}
+use Rattle.paper.specs.Layout.{Bytes, Block, nOf, version, idOf, inParty, outParty, state, first, partner, quantities, entry}
+use Rattle.paper.specs.Ids.{idText}
+use Rattle.paper.specs.Codes.{reasonCode}
+use Rattle.paper.specs.Listing.{text}
+use Rattle.paper.specs.QuantityText.{lastDigits, quantityText}
+use Rattle.desk_text.specs.Numbers.{numberText, minuteText}
+use Rattle.desk_text.specs.Words.{meaning, stateMeaning}
+
+-- ---- the parts of a line
+
+-- a word and a number
+unfoldable pub worded : (word : Bytes) (x : ℕ) → Bytes
+worded word x = word ++ numberText x
+
+-- nothing where the number is 0
+unfoldable pub named : (word : Bytes) (x : ℕ) → Bytes
+named word x = cond (is x 0) [] (worded word x)
+
+-- A53 behind a space, A04 with its zero; nothing where a number has no code
+unfoldable pub codeText : (code : ℕ) → Bytes
+codeText code = cond (is code 0) [] (text " A" ++ lastDigits 2 code)
+
+-- accepted or refused, and the number
+unfoldable pub status : (number : ℕ) → Bytes
+status number = worded (cond (is number 0) (text "accepted ") (text "refused ")) number
+
+-- nothing needs to be explained of an acceptance
+unfoldable pub reason : (number : ℕ) → Bytes
+reason number = cond (is number 0) [] (text ": " ++ meaning number)
+
+-- a whole answer but for what was asked for and the newline: status, number and code, where a rule is broken, what that means
+unfoldable pub answerText : (number code series position : ℕ) → Bytes
+answerText number code series position =
+    status number ++ codeText code ++ named (text " series ") series ++ named (text " position ") position ++ reason number
+
+-- of a call that has no series and no position to tell
+unfoldable pub answerOf : (number : ℕ) → Bytes
+answerOf number = answerText number (reasonCode number) 0 0
+
+-- a quantity in megawatts, as printing gives it
+unfoldable pub megawatts : (kilowatts : ℕ) → Bytes
+megawatts kilowatts = cond (less 9999999 kilowatts) [] (quantityText kilowatts)
+
+-- ---- the lines
+
+unfoldable pub verdictLine : (v : Verdict) → Bytes
+verdictLine v = answerText (v .number) (v .code) (v .series) (v .position .0) ++ text "\n"
+
+unfoldable pub numberLine : (number : ℕ) → Bytes
+numberLine number = answerOf number ++ text "\n"
+
+-- an answer, then what it tells if the call is accepted
+unfoldable pub telling : (number : ℕ) (told : Bytes) → Bytes
+telling number told = answerOf number ++ cond (is number 0) told (text "\n")
+
+unfoldable pub dayText : (day : DayState) → Bytes
+dayText day = worded (text ": n ") (day .n) ++ worded (text " lead ") (day .lead) ++ text " clock " ++ minuteText (day .clock .0) ++ text "\n"
+
+-- the state is told of a refused clock too, but on 1 there is none
+unfoldable pub clockLine : (a : ClockAnswer) → Bytes
+clockLine a = answerOf (a .number) ++ cond (is (a .number) 1) (text "\n") (dayText (a .state))
+
+unfoldable pub markText : (state first partner : ℕ) → Bytes
+markText state first partner = worded (text "state ") state ++ worded (text " first ") first ++ worded (text " partner ") partner ++ text ", " ++ stateMeaning state
+
+unfoldable pub markLine : (a : MarkAnswer) → Bytes
+markLine a = telling (a .number) (text ": " ++ markText (a .state) (a .first .0) (a .partner .0) ++ text "\n")
+
+unfoldable pub finalLine : (a : FinalAnswer) → Bytes
+finalLine a = telling (a .number) (text ": " ++ megawatts (a .kilowatts) ++ text " MW\n")
+
+unfoldable pub plainText : (holds : Bool) → Bytes
+plainText holds = cond holds (text ": yes, every kept mark and net is true\n") (text ": no, a kept mark or net is not true\n")
+
+unfoldable pub plainLine : (a : PlainRunAnswer) → Bytes
+plainLine a = telling (a .number) (plainText (a .holds))
+
+unfoldable pub quantityLine : (r : QuantityRead) → Bytes
+quantityLine r = telling (r .number) (worded (text ": ") (r .kilowatts) ++ text " kW, printed " ++ megawatts (r .kilowatts) ++ text "\n")
+
+unfoldable pub eicLine : (valid : Bool) → Bytes
+eicLine valid = cond valid (text "yes, a valid EIC\n") (text "no, not a valid EIC\n")
+
+-- the first k quantities, a space before each
+unfoldable pub quantitiesText : (q : Bytes) (k : ℕ) → Bytes
+quantitiesText q zero = []
+quantitiesText q (suc k) = quantitiesText q k ++ (32 ∷ megawatts (entry q k))
+
+-- id, version and parties
+unfoldable pub nameText : (x : Block) → Bytes
+nameText x = (text ": series " ++ idText (idOf x)) ++ worded (text " version ") (version x) ++ (text " in " ++ inParty x) ++ (text " out " ++ outParty x)
+
+unfoldable pub seriesText : (x : Block) → Bytes
+seriesText x = nameText x ++ text " " ++ markText (state x) (first x) (partner x)
+
+-- number is that of the mark's call, which tells an unsound book from an unknown series
+unfoldable pub blockLine : (number : ℕ) (x : Block) → Bytes
+blockLine number x = telling number (seriesText x ++ (text "; MW" ++ quantitiesText (quantities x) (nOf x)) ++ text "\n")

@@ -1,0 +1,278 @@
+// The desk's answers as lines: accepted or refused, document 01's number and reason code, where a rule is broken, what that means, and what was asked for.
+// Each function puts its piece at a place of the line and answers the place behind it.
+ghost use mathlib.Core.List.{_∷_, _++_};
+ghost use Prim.Native.Nat.{_≤_, _<_};
+ghost use Rattle.paper.specs.Layout.{state, first, partner, entry};
+ghost use Rattle.paper.specs.Listing.{text};
+ghost use Rattle.desk_text.specs.Put.{Put};
+ghost use Rattle.desk_lines.specs.Lines.{worded, named, codeText, status, reason, answerText, answerOf, megawatts, markText, dayText, nameText, seriesText, quantitiesText};
+ghost use Rattle.desk_lines.specs.Lines.{verdictLine, numberLine, clockLine, markLine, finalLine, plainLine, quantityLine, eicLine, blockLine};
+use desk_text::numbers::put_digits;
+use desk_text::numbers::put_minute;
+use desk_text::numbers::put_number;
+use desk_text::put::put;
+use desk_text::words::put_meaning;
+use desk_text::words::put_state_meaning;
+use field::id_text;
+use paper::ClockAnswer;
+use paper::DayState;
+use paper::FinalAnswer;
+use paper::MarkAnswer;
+use paper::PlainRunAnswer;
+use paper::QuantityRead;
+use paper::Verdict;
+
+fn put_worded(line: &mut [u8], at: usize, word: &[u8], x: usize) -> usize
+    ensures { λ r. ⌜ Put at (worded (now (word .entry)) x) r (now (line .entry)) (now (line .exit)) ⌝ }
+{
+    let behind = put(line, at, word);
+    put_number(line, behind, x)
+}
+
+// Nothing where the number is 0.
+fn put_named(line: &mut [u8], at: usize, word: &[u8], x: usize) -> usize
+    ensures { λ r. ⌜ Put at (named (now (word .entry)) x) r (now (line .entry)) (now (line .exit)) ⌝ }
+{
+    if x == 0 {
+        return put(line, at, b"");
+    }
+    put_worded(line, at, word, x)
+}
+
+// A04 keeps its zero.
+fn put_code(line: &mut [u8], at: usize, code: u8) -> usize
+    ensures { λ r. ⌜ Put at (codeText code) r (now (line .entry)) (now (line .exit)) ⌝ }
+{
+    if code == 0 {
+        return put(line, at, b"");
+    }
+    let behind = put(line, at, b" A");
+    put_digits(line, behind, 2, code as usize)
+}
+
+fn put_status(line: &mut [u8], number: u32) -> usize
+    ensures { λ r. ⌜ Put 0 (status number) r (now (line .entry)) (now (line .exit)) ⌝ }
+{
+    if number == 0 {
+        return put_worded(line, 0, b"accepted ", number as usize);
+    }
+    put_worded(line, 0, b"refused ", number as usize)
+}
+
+// Nothing needs to be explained of an acceptance.
+fn put_reason(line: &mut [u8], at: usize, number: u32) -> usize
+    ensures { λ r. ⌜ Put at (reason number) r (now (line .entry)) (now (line .exit)) ⌝ }
+{
+    if number == 0 {
+        return put(line, at, b"");
+    }
+    let behind = put(line, at, b": ");
+    put_meaning(line, behind, number)
+}
+
+// A whole answer but for what was asked for and the newline.
+fn put_answer(line: &mut [u8], number: u32, code: u8, series: usize, position: usize) -> usize
+    ensures { λ r. ⌜ Put 0 (answerText number code series position) r (now (line .entry)) (now (line .exit)) ⌝ }
+{
+    let a = put_status(line, number);
+    let b = put_code(line, a, code);
+    let c = put_named(line, b, b" series ", series);
+    let d = put_named(line, c, b" position ", position);
+    put_reason(line, d, number)
+}
+
+fn put_megawatts(line: &mut [u8], at: usize, kilowatts: u32) -> usize
+    ensures { λ r. ⌜ Put at (megawatts kilowatts) r (now (line .entry)) (now (line .exit)) ⌝ }
+{
+    let mut room = [0u8; 8];
+    let printed = quantity::quantity_print(kilowatts, &mut room);
+    let k = printed.length;
+    put(line, at, field::part_of(&room, 0, k))
+}
+
+// Of a call that has no series and no position to tell.
+fn put_answer_of(line: &mut [u8], number: u32) -> usize
+    ensures { λ r. ⌜ Put 0 (answerOf number) r (now (line .entry)) (now (line .exit)) ⌝ }
+{
+    put_answer(line, number, codes::reason_code(number), 0, 0)
+}
+
+// Where a rule is broken is told with it.
+pub fn verdict_line(line: &mut [u8], verdict: Verdict) -> usize
+    ensures { λ r. ⌜ Put 0 (verdictLine verdict) r (now (line .entry)) (now (line .exit)) ⌝ }
+{
+    let a = put_answer(
+        line,
+        verdict.number,
+        verdict.code,
+        verdict.series,
+        verdict.position.0,
+    );
+    put(line, a, b"\n")
+}
+
+pub fn number_line(line: &mut [u8], number: u32) -> usize
+    ensures { λ r. ⌜ Put 0 (numberLine number) r (now (line .entry)) (now (line .exit)) ⌝ }
+{
+    let a = put_answer_of(line, number);
+    put(line, a, b"\n")
+}
+
+fn put_day(line: &mut [u8], at: usize, day: DayState) -> usize
+    ensures { λ r. ⌜ Put at (dayText day) r (now (line .entry)) (now (line .exit)) ⌝ }
+{
+    let a = put_worded(line, at, b": n ", day.n as usize);
+    let b = put_worded(line, a, b" lead ", day.lead as usize);
+    let c = put(line, b, b" clock ");
+    let d = put_minute(line, c, day.clock);
+    put(line, d, b"\n")
+}
+
+// A refused clock tells the day's state too, but on 1 there is none.
+pub fn clock_line(line: &mut [u8], answer: ClockAnswer) -> usize
+    ensures { λ r. ⌜ Put 0 (clockLine answer) r (now (line .entry)) (now (line .exit)) ⌝ }
+{
+    let a = put_answer_of(line, answer.number);
+    if answer.number == 1 {
+        return put(line, a, b"\n");
+    }
+    put_day(line, a, answer.state)
+}
+
+fn put_mark(line: &mut [u8], at: usize, state: u8, first: usize, partner: usize) -> usize
+    ensures { λ r. ⌜ Put at (markText state first partner) r (now (line .entry)) (now (line .exit)) ⌝ }
+{
+    let a = put_worded(line, at, b"state ", state as usize);
+    let b = put_worded(line, a, b" first ", first);
+    let c = put_worded(line, b, b" partner ", partner);
+    let d = put(line, c, b", ");
+    put_state_meaning(line, d, state as usize)
+}
+
+pub fn mark_line(line: &mut [u8], answer: MarkAnswer) -> usize
+    ensures { λ r. ⌜ Put 0 (markLine answer) r (now (line .entry)) (now (line .exit)) ⌝ }
+{
+    let a = put_answer_of(line, answer.number);
+    if answer.number != 0 {
+        return put(line, a, b"\n");
+    }
+    let b = put(line, a, b": ");
+    let c = put_mark(line, b, answer.state, answer.first.0, answer.partner.0);
+    put(line, c, b"\n")
+}
+
+pub fn final_line(line: &mut [u8], answer: FinalAnswer) -> usize
+    ensures { λ r. ⌜ Put 0 (finalLine answer) r (now (line .entry)) (now (line .exit)) ⌝ }
+{
+    let a = put_answer_of(line, answer.number);
+    if answer.number != 0 {
+        return put(line, a, b"\n");
+    }
+    let b = put(line, a, b": ");
+    let c = put_megawatts(line, b, answer.kilowatts);
+    put(line, c, b" MW\n")
+}
+
+pub fn plain_line(line: &mut [u8], answer: PlainRunAnswer) -> usize
+    ensures { λ r. ⌜ Put 0 (plainLine answer) r (now (line .entry)) (now (line .exit)) ⌝ }
+{
+    let a = put_answer_of(line, answer.number);
+    if answer.number != 0 {
+        return put(line, a, b"\n");
+    }
+    if answer.holds {
+        return put(line, a, b": yes, every kept mark and net is true\n");
+    }
+    put(line, a, b": no, a kept mark or net is not true\n")
+}
+
+pub fn quantity_line(line: &mut [u8], answer: QuantityRead) -> usize
+    ensures { λ r. ⌜ Put 0 (quantityLine answer) r (now (line .entry)) (now (line .exit)) ⌝ }
+{
+    let a = put_answer_of(line, answer.number);
+    if answer.number != 0 {
+        return put(line, a, b"\n");
+    }
+    let b = put_worded(line, a, b": ", answer.kilowatts as usize);
+    let c = put(line, b, b" kW, printed ");
+    let d = put_megawatts(line, c, answer.kilowatts);
+    put(line, d, b"\n")
+}
+
+pub fn eic_line(line: &mut [u8], valid: bool) -> usize
+    ensures { λ r. ⌜ Put 0 (eicLine valid) r (now (line .entry)) (now (line .exit)) ⌝ }
+{
+    if valid {
+        return put(line, 0, b"yes, a valid EIC\n");
+    }
+    put(line, 0, b"no, not a valid EIC\n")
+}
+
+// ---- an accepted block
+
+// A word, and a field as it stands.
+fn put_field(line: &mut [u8], at: usize, word: &[u8], s: &[u8]) -> usize
+    ensures { λ r. ⌜ Put at (now (word .entry) ++ now (s .entry)) r (now (line .entry)) (now (line .exit)) ⌝ }
+{
+    let behind = put(line, at, word);
+    put(line, behind, s)
+}
+
+fn put_name(line: &mut [u8], at: usize, x: &[u8]) -> usize
+    ensures { λ r. ⌜ Put at (nameText (now (x .entry))) r (now (line .entry)) (now (line .exit)) ⌝ }
+{
+    let a = put_field(line, at, b": series ", id_text(layout::id_of(x)));
+    let b = put_worded(line, a, b" version ", layout::version(x) as usize);
+    let c = put_field(line, b, b" in ", layout::in_party(x));
+    put_field(line, c, b" out ", layout::out_party(x))
+}
+
+fn put_series(line: &mut [u8], at: usize, x: &[u8]) -> usize
+    ensures { λ r. ⌜ Put at (seriesText (now (x .entry))) r (now (line .entry)) (now (line .exit)) ⌝ }
+{
+    let a = put_name(line, at, x);
+    let b = put(line, a, b" ");
+    put_mark(
+        line,
+        b,
+        layout::state(x),
+        layout::first(x).0,
+        layout::partner(x).0,
+    )
+}
+
+// Quantity k, a space before it.
+fn put_quantity(line: &mut [u8], at: usize, q: &[u8], k: usize) -> usize
+    requires { ⌜ k < 255 ⌝ }
+    ensures { λ r. ⌜ Put at (32 ∷ megawatts (entry (now (q .entry)) k)) r (now (line .entry)) (now (line .exit)) ⌝ }
+{
+    let a = put(line, at, b" ");
+    put_megawatts(line, a, block::numbers::number_4(q, 4 * k))
+}
+
+// The unit, and the first n quantities of a block.
+fn put_quantities(line: &mut [u8], at: usize, q: &[u8], n: usize) -> usize
+    requires { ⌜ n ≤ 255 ⌝ }
+    ensures { λ r. ⌜ Put at (text "; MW" ++ quantitiesText (now (q .entry)) n) r (now (line .entry)) (now (line .exit)) ⌝ }
+{
+    let mut place = put(line, at, b"; MW");
+    let mut k = 0;
+    while k < n {
+        place = put_quantity(line, place, q, k);
+        k += 1;
+    }
+    place
+}
+
+// The number is that of the mark's call, which tells an unsound book from an unknown series.
+pub fn block_line(line: &mut [u8], number: u32, x: &[u8]) -> usize
+    ensures { λ r. ⌜ Put 0 (blockLine number (now (x .entry))) r (now (line .entry)) (now (line .exit)) ⌝ }
+{
+    let a = put_answer_of(line, number);
+    if number != 0 {
+        return put(line, a, b"\n");
+    }
+    let b = put_series(line, a, x);
+    let c = put_quantities(line, b, layout::quantities(x), layout::n_of(x) as usize);
+    put(line, c, b"\n")
+}
