@@ -2,7 +2,6 @@
 ghost use mathlib.Core.Path.{_≡_};
 ghost use Rattle.paper.specs.Clock.{dayState, advanced, clockAnswer, clockMoved};
 use field::part_of;
-use forms::ranges::clock_allowed;
 use layout::lead;
 use layout::n_of;
 use layout::write::write_clock;
@@ -10,6 +9,7 @@ use paper::ClockAnswer;
 use paper::DayState;
 use paper::Minute;
 use sound::sound;
+use sound_blocks::ranges::clock_allowed;
 
 // n, lead and clock as the day block keeps them.
 pub fn day_state(d: &[u8]) -> DayState

@@ -25,7 +25,7 @@ fn clock(book: &mut [u8], minute: u16) -> bool {
 
 // 25 where the position is open, 26 where it is closed: the book has no series.
 fn final_number(book: &[u8], what: &[u8], position: usize, expected: u32) -> bool {
-    let answer = read::final_value(
+    let answer = readings::final_value(
         book,
         b"14XBILANZGR-1--F",
         b"14XBG-EMPFANG--0",
@@ -95,7 +95,7 @@ fn sellers(book: &mut [u8], what: &[u8], version: usize, more: &[u8], expected: 
 }
 
 fn kept_version(book: &[u8], what: &[u8], expected: u32) -> bool {
-    let block = read::accepted_block(book, b"14XBILANZGR-1--F", b"TS0001\0\0\0\0\0\0\0\0\0\0");
+    let block = readings::accepted_block(book, b"14XBILANZGR-1--F", b"TS0001\0\0\0\0\0\0\0\0\0\0");
     line::number(what, expected, layout::version(block) as u32)
 }
 

@@ -19,7 +19,7 @@ fn mark_told(book: &[u8], words: &[u8], line: &mut [u8]) -> usize
     ensures { λ r. ⌜ Put 0 (markLine (markAnswer (now (book .entry)) (wordNumbered 3 (now (words .entry))) (idField (wordNumbered 4 (now (words .entry)))))) r (now (line .entry)) (now (line .exit)) ⌝ }
 {
     let id = id_field(word(words, 4));
-    let answer = read::mark(book, word(words, 3), &id);
+    let answer = readings::mark(book, word(words, 3), &id);
     desk_lines::mark_line(line, answer)
 }
 
@@ -29,14 +29,14 @@ fn block_told(book: &[u8], words: &[u8], line: &mut [u8]) -> usize
 {
     let id = id_field(word(words, 4));
     let sender = word(words, 3);
-    let number = read::mark(book, sender, &id).number;
-    desk_lines::block_line(line, number, read::accepted_block(book, sender, &id))
+    let number = readings::mark(book, sender, &id).number;
+    desk_lines::block_line(line, number, readings::accepted_block(book, sender, &id))
 }
 
 fn final_told(book: &[u8], words: &[u8], position: usize, line: &mut [u8]) -> usize
     ensures { λ r. ⌜ Put 0 (finalLine (final (now (book .entry)) (wordNumbered 3 (now (words .entry))) (wordNumbered 4 (now (words .entry))) position)) r (now (line .entry)) (now (line .exit)) ⌝ }
 {
-    let answer = read::final_value(book, word(words, 3), word(words, 4), Position(position));
+    let answer = readings::final_value(book, word(words, 3), word(words, 4), Position(position));
     desk_lines::final_line(line, answer)
 }
 

@@ -66,7 +66,7 @@ pub extern "C" fn tetherbay_judge(book: &[u8], message: &[u8]) -> Verdict
 pub extern "C" fn tetherbay_mark(book: &[u8], sender: &[u8], id: &[u8]) -> MarkAnswer
     ensures { λ r. ⌜ r ≡ markAnswer (now (book .entry)) (now (sender .entry)) (now (id .entry)) ⌝ }
 {
-    read::mark(book, sender, id)
+    readings::mark(book, sender, id)
 }
 
 #[no_mangle]
@@ -78,7 +78,7 @@ pub extern "C" fn tetherbay_final(
 ) -> FinalAnswer
     ensures { λ r. ⌜ r ≡ final (now (book .entry)) (now (seller .entry)) (now (buyer .entry)) position ⌝ }
 {
-    read::final_value(book, seller, buyer, Position(position))
+    readings::final_value(book, seller, buyer, Position(position))
 }
 
 #[no_mangle]

@@ -43,7 +43,10 @@ pub extern "C" fn tetherbay_accepted_block(book: &[u8], sender: &[u8], id: &[u8]
     if !sound::sound(book) {
         return nothing();
     }
-    part_numbered(book, read::stored_as(slots::used_part(book), sender, id).0)
+    part_numbered(
+        book,
+        readings::stored_as(slots::used_part(book), sender, id).0,
+    )
 }
 
 #[no_mangle]

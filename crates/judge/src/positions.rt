@@ -5,13 +5,13 @@ ghost use Rattle.paper.specs.Rules.{overPositions, quantityVerdict, closedVerdi
 use super::order::broken;
 use super::order::fine;
 use super::order::then;
-use forms::day::closed;
 use paper::Position;
 use paper::Verdict;
 use rules::values::rule_11;
 use rules::values::rule_12;
 use rules::values::rule_13;
 use rules::values::rule_14;
+use sound_blocks::day::closed;
 
 // Position k + 1: of rules 11 and 12 the first that is broken, above n rule 13.
 fn quantity_at(n: usize, s: usize, y: &[u8], k: usize) -> Verdict

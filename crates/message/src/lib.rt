@@ -5,7 +5,6 @@ ghost use Rattle.laws.specs.Cut.{cut};
 ghost use Rattle.paper.specs.Message.{headOf, seriesOf, headRight, seriesRight, messageRight, rule2};
 use block::check::checks_right;
 use field::part_of;
-use forms::ranges::whole_blocks;
 use layout::n_of;
 use layout::sender_zeros_in_message;
 use layout::series_count;
@@ -13,6 +12,7 @@ use layout::series_zeros_in_message;
 use slots::block_at;
 use slots::is_sender;
 use slots::is_series;
+use sound_blocks::ranges::whole_blocks;
 
 // The sender's block; of a message that is too short, what there is.
 pub fn head_of(message: &[u8]) -> &[u8]

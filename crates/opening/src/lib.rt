@@ -9,10 +9,10 @@ use block::check::seal;
 use eic::eic_valid_with;
 use eic::values;
 use field::day_well_formed;
-use forms::ranges::lead_allowed;
-use forms::ranges::n_allowed;
-use forms::ranges::whole_blocks;
 use layout::write::write_day_fields;
+use sound_blocks::ranges::lead_allowed;
+use sound_blocks::ranges::n_allowed;
+use sound_blocks::ranges::whole_blocks;
 
 // The parameters are judged themselves, before any block is made of them: a refusal writes nothing.
 fn opening_allowed(n: u8, lead: u16, day: &[u8], area: &[u8], receiver: &[u8]) -> bool

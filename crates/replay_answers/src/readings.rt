@@ -18,7 +18,7 @@ fn mark(book: &[u8], body: &[u8]) -> Told {
     if name_end(body, id) != body.len() {
         return nothing();
     }
-    let m = read::mark(book, name(body, 0), name(body, id));
+    let m = readings::mark(book, name(body, 0), name(body, id));
     four(m.number as usize, m.state as usize, m.first.0, m.partner.0)
 }
 
@@ -30,7 +30,7 @@ fn final_value(book: &[u8], body: &[u8]) -> Told {
         return nothing();
     }
     let position = Position(number_2(body, at) as usize);
-    let f = read::final_value(book, name(body, 0), name(body, in_party), position);
+    let f = readings::final_value(book, name(body, 0), name(body, in_party), position);
     two(f.number as usize, f.kilowatts as usize)
 }
 

@@ -17,7 +17,7 @@ pub fn accepted_block(book: &[u8], body: &[u8], line: &mut [u8]) -> usize {
     if name_end(body, id) != body.len() {
         return 0;
     }
-    let block = read::accepted_block(book, name(body, 0), name(body, id));
+    let block = readings::accepted_block(book, name(body, 0), name(body, id));
     answer_with(line, 9, one(block.len()), block)
 }
 

@@ -7,7 +7,6 @@ use eic::eic_valid_with;
 use field::all_zero;
 use field::id_well_formed;
 use field::same;
-use forms::series::parties_of;
 use layout::agreement;
 use layout::area;
 use layout::business_type;
@@ -19,6 +18,7 @@ use layout::out_area;
 use layout::out_party;
 use layout::pair;
 use layout::sender;
+use sound_blocks::series::parties_of;
 
 // Of series number `number`: the message's first series with its id, or with its pair, is another, which comes earlier; or the sender's stored
 // series with its id is not the one with its pair.

@@ -3,12 +3,12 @@ ghost use mathlib.Core.Path.{_≡_};
 ghost use Prim.Native.Nat.{_<_};
 ghost use Rattle.paper.specs.Rules.{rule11, rule12, rule13, rule14, seriesVersion, rule15};
 use field::same;
-use forms::day::closed;
 use layout::quantities;
 use layout::quantity;
 use layout::version;
 use paper::Position;
 use slots::is_series;
+use sound_blocks::day::closed;
 
 // The top bit is the sign: a quantity below 0.
 pub fn rule_11(n: usize, y: &[u8], k: usize) -> bool

@@ -9,11 +9,11 @@ ghost use Rattle.laws.specs.Cut.{cut};
 ghost use Rattle.index.specs.Linked.{Links};
 ghost use Rattle.sound.specs.Used.{clashes, countRight};
 ghost use Rattle.sound.specs.Links.{inGroup};
-use forms::ranges::count_allowed;
 use index::wide;
 use layout::series_count;
 use slots::block_at;
 use slots::is_sender;
+use sound_blocks::ranges::count_allowed;
 
 // How many blocks are in a group.
 fn count_of(us: &[u8], heads: &[u16; 1024], nexts: &[u16; 1000], g: usize) -> usize

@@ -20,11 +20,6 @@ use counts::counts_right;
 use eic::values;
 use field::all_zero;
 use field::part_of;
-use forms::day::day_sound;
-use forms::ranges::whole_blocks;
-use forms::sender::sender_day;
-use forms::sender::sender_fields;
-use forms::series::series_sound;
 use index::no_heads;
 use index::no_nexts;
 use links::link;
@@ -34,6 +29,11 @@ use slots::block_at;
 use slots::is_sender;
 use slots::is_series;
 use slots::used_count;
+use sound_blocks::day::day_sound;
+use sound_blocks::ranges::whole_blocks;
+use sound_blocks::sender::sender_day;
+use sound_blocks::sender::sender_fields;
+use sound_blocks::series::series_sound;
 
 fn used_fields(table: &[u8; 256], d: &[u8], us: &[u8], b: &[u8]) -> bool
     requires { ⌜ IsTable (now table) × (nOf (now d) ≤ 100) ⌝ }

@@ -1,0 +1,115 @@
+// The final value of (out party, in party, position), from the day block and the used slots of a sound book.
+ghost use mathlib.Core.Path.{_≡_};
+ghost use mathlib.Core.List.{_++_};
+ghost use Prim.Native.Nat.{_<_};
+ghost use Rattle.laws.specs.Lists.{same, place};
+ghost use Rattle.laws.specs.Cut.{cut};
+ghost use Rattle.paper.specs.Layout.{quantities, entry};
+ghost use Rattle.paper.specs.Book.{numbered, slotOf, isSeriesOfPair};
+ghost use Rattle.paper.specs.Finals.{finalOf, finalRefused, finalIn};
+ghost use Rattle.readings.specs.Held.{finalHeld};
+use block::numbers::number_4;
+use field::same;
+use layout::n_of;
+use layout::pair;
+use layout::quantities;
+use paper::FinalAnswer;
+use paper::Position;
+use paper::Slot;
+use slots::block_at;
+use slots::is_series_of;
+use slots::numbered;
+use slots::slot_of;
+use sound_blocks::day::closed;
+
+// The field against two lists joined, of whatever lengths.
+fn same_joined(s: &[u8], a: &[u8], b: &[u8]) -> bool
+    ensures { λ r. ⌜ r ≡ same (now (s .entry)) (now (a .entry) ++ now (b .entry)) ⌝ }
+{
+    if s.len() < a.len() {
+        return false;
+    }
+    same(&s[..a.len()], a) & same(&s[a.len()..], b)
+}
+
+// A pair has the in party first, the buyer. It is compared only where the sender's slot agrees.
+fn is_series_of_pair(b: &[u8], slot: Slot, seller: &[u8], buyer: &[u8]) -> bool
+    ensures { λ r. ⌜ r ≡ isSeriesOfPair (slot .0) (now (buyer .entry) ++ now (seller .entry)) (now (b .entry)) ⌝ }
+{
+    if !is_series_of(b, slot) {
+        return false;
+    }
+    same_joined(pair(b), buyer, seller)
+}
+
+// The slot of the party's series under the pair; 0 where it has none.
+fn held(us: &[u8], party: &[u8], seller: &[u8], buyer: &[u8]) -> Slot
+    ensures { λ r. ⌜ r .0 ≡ place (isSeriesOfPair (slotOf (cut 512 (now (us .entry))) (now (party .entry))) (now (buyer .entry) ++ now (seller .entry))) (cut 512 (now (us .entry))) ⌝ }
+{
+    let slot = slot_of(us, party);
+    let blocks = us.len() / 512;
+    let mut i = 0;
+    while i < blocks {
+        if is_series_of_pair(block_at(us, i), slot, seller, buyer) {
+            return Slot(i + 1);
+        }
+        i += 1;
+    }
+    Slot(0)
+}
+
+// A missing series counts 0.
+fn held_at(us: &[u8], slot: Slot, k: usize) -> u32
+    requires { ⌜ k < 255 ⌝ }
+    ensures { λ r. ⌜ r ≡ entry (quantities (numbered (cut 512 (now (us .entry))) (slot .0))) k ⌝ }
+{
+    number_4(quantities(numbered(us, slot)), 4 * k)
+}
+
+// The side that a final value is taken from: the one place that chooses.
+fn final_of(sellers: u32, buyers: u32) -> u32
+    ensures { λ r. ⌜ r ≡ finalOf sellers buyers ⌝ }
+{
+    sellers
+}
+
+pub fn final_refused(number: u32) -> FinalAnswer
+    ensures { λ r. ⌜ r ≡ finalRefused number ⌝ }
+{
+    FinalAnswer {
+        number: number,
+        kilowatts: 0,
+    }
+}
+
+// At a closed position k + 1.
+fn final_held(us: &[u8], seller: &[u8], buyer: &[u8], k: usize) -> FinalAnswer
+    requires { ⌜ k < 255 ⌝ }
+    ensures { λ r. ⌜ r ≡ finalHeld (cut 512 (now (us .entry))) (now (seller .entry)) (now (buyer .entry)) k ⌝ }
+{
+    let sellers = held(us, seller, seller, buyer);
+    let buyers = held(us, buyer, seller, buyer);
+    if (sellers.0 == 0) & (buyers.0 == 0) {
+        return final_refused(26);
+    }
+    FinalAnswer {
+        number: 0,
+        kilowatts: final_of(held_at(us, sellers, k), held_at(us, buyers, k)),
+    }
+}
+
+pub fn final_in(d: &[u8], us: &[u8], seller: &[u8], buyer: &[u8], position: Position) -> FinalAnswer
+    ensures { λ r. ⌜ r ≡ finalIn (now (d .entry)) (cut 512 (now (us .entry))) (now (seller .entry)) (now (buyer .entry)) (position .0) ⌝ }
+{
+    let p = position.0;
+    if p == 0 {
+        return final_refused(24);
+    }
+    if (n_of(d) as usize) < p {
+        return final_refused(24);
+    }
+    if !closed(d, position) {
+        return final_refused(25);
+    }
+    final_held(us, seller, buyer, p - 1)
+}

@@ -1,0 +1,28 @@
+-- The tests are the definition's.
+use Rattle.laws.specs.Kit.{needs}
+use Rattle.laws.specs.Tests.{_and_}
+use Rattle.paper.specs.Sound.{seriesCodes}
+use Rattle.sound_blocks.proofs.series.series_codes.Statement.{statement}
+use Rattle.sound_blocks.proofs.series.series_codes.Tie as tie
+
+returns : tie.Need-returns
+unfolding seriesCodes _and_
+returns c =
+    simp (
+      c .all-zero .ensures,
+      c .before .agreement .ensures,
+      c .before .before .eic-valid-with2 .ensures,
+      c .before .before .before .out-party .ensures,
+      c .before .before .before .before .eic-valid-with .ensures,
+      c .before .before .before .before .before .in-party .ensures,
+      c .before .before .before .before .before .before .same2 .ensures,
+      c .before .before .before .before .before .before .before .out-area .ensures,
+      c .before .before .before .before .before .before .before .before .same .ensures,
+      c .before .before .before .before .before .before .before .before .before .in-area .ensures,
+      c .before .before .before .before .before .before .before .before .before .before .area .ensures,
+    )
+
+pub series-codes-spec : {M : Type 1} → statement M
+series-codes-spec =
+    tie.close
+    (tie.spec (λ c κs. search needs) (λ c κs. search needs) (λ c κs. search needs) (λ c κs. search needs) (λ c κs. search needs) (λ c κs. search needs) (λ c κs. search needs) (λ c κs. search needs) (λ c κs. search needs) (λ c κs. search needs) (λ c κs. search needs) returns)
