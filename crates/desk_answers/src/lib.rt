@@ -1,6 +1,6 @@
 // Each command's answer: the call, and the line that tells it. What is left to the program is the moving of bytes.
 pub mod changes;
-pub mod readings;
+pub mod questions;
 
 use paper::Minute;
 

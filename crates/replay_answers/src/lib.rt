@@ -3,7 +3,7 @@
 pub mod day_calls;
 pub mod leaf_calls;
 pub mod message_calls;
-pub mod readings;
+pub mod reading_calls;
 pub mod shown;
 
 use stream::line;
@@ -15,7 +15,7 @@ fn numbers(tag: u8, book: &mut [u8], body: &[u8]) -> Told {
         return day_calls::numbers(tag, book, body);
     }
     if tag < 16 {
-        return readings::numbers(tag, book, body);
+        return reading_calls::numbers(tag, book, body);
     }
     leaf_calls::numbers(tag, body)
 }

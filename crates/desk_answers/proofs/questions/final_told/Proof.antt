@@ -1,7 +1,7 @@
 -- The answer told is the final value's.
 use Rattle.laws.specs.Kit.{needs}
-use Rattle.desk_answers.proofs.readings.final_told.Statement.{statement}
-use Rattle.desk_answers.proofs.readings.final_told.Tie as tie
+use Rattle.desk_answers.proofs.questions.final_told.Statement.{statement}
+use Rattle.desk_answers.proofs.questions.final_told.Tie as tie
 
 returns : tie.Need-returns
 returns c = rw (c .before .before .before .before .final-value .ensures, c .before .before .before .before .before .before .word .ensures, c .before .before .before .before .before .word2 .ensures) at (c .before .before .final-line .ensures)

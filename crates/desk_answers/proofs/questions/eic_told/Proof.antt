@@ -1,7 +1,7 @@
 -- The answer told is the check of the code.
 use Rattle.laws.specs.Kit.{needs}
-use Rattle.desk_answers.proofs.readings.eic_told.Statement.{statement}
-use Rattle.desk_answers.proofs.readings.eic_told.Tie as tie
+use Rattle.desk_answers.proofs.questions.eic_told.Statement.{statement}
+use Rattle.desk_answers.proofs.questions.eic_told.Tie as tie
 
 returns : tie.Need-returns
 returns c = rw (c .before .before .before .before .eic-valid .ensures, c .before .before .before .before .before .word .ensures) at (c .before .before .eic-line .ensures)

@@ -1,7 +1,7 @@
 -- The answer told is the mark's, of the sender and the id as they are read.
 use Rattle.laws.specs.Kit.{needs}
-use Rattle.desk_answers.proofs.readings.mark_told.Statement.{statement}
-use Rattle.desk_answers.proofs.readings.mark_told.Tie as tie
+use Rattle.desk_answers.proofs.questions.mark_told.Statement.{statement}
+use Rattle.desk_answers.proofs.questions.mark_told.Tie as tie
 
 returns : tie.Need-returns
 returns c = rw (c .before .before .before .before .mark .ensures, c .before .before .before .before .before .before .word2 .ensures, c .before .before .before .before .before .before .before .id-field .ensures, c .before .before .before .before .before .before .before .before .word .ensures) at (c .before .before .mark-line .ensures)

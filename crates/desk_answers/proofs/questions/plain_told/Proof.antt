@@ -1,7 +1,7 @@
 -- The answer told is the plain run's.
 use Rattle.laws.specs.Kit.{needs}
-use Rattle.desk_answers.proofs.readings.plain_told.Statement.{statement}
-use Rattle.desk_answers.proofs.readings.plain_told.Tie as tie
+use Rattle.desk_answers.proofs.questions.plain_told.Statement.{statement}
+use Rattle.desk_answers.proofs.questions.plain_told.Tie as tie
 
 returns : tie.Need-returns
 returns c = rw (c .before .before .before .before .plain-run .ensures) at (c .before .before .plain-line .ensures)

@@ -1,8 +1,8 @@
 -- The code goes by the definition's cases.
 use Rattle.laws.specs.Kit.{needs}
 use Rattle.desk_answers.specs.Answers.{lineOf, Answered}
-use Rattle.desk_answers.proofs.readings.answer.Statement.{statement}
-use Rattle.desk_answers.proofs.readings.answer.Tie as tie
+use Rattle.desk_answers.proofs.questions.answer.Statement.{statement}
+use Rattle.desk_answers.proofs.questions.answer.Tie as tie
 
 returns : tie.Need-returns
 unfolding Answered lineOf
