@@ -1,5 +1,5 @@
 -- The answer, and the newline of a refusal, else the series and its quantities.
-use Rattle.laws.specs.Kit.{needs}
+use Rattle.laws.specs.Kit.{needs, arith}
 use Rattle.laws.specs.Tests.Laws.{is-equal, is-other}
 use Rattle.paper.specs.Listing.{text}
 use Rattle.desk_lines.specs.Lines.{telling, blockLine}
@@ -18,4 +18,4 @@ returns-2 c =
     rw (is-equal _ _ (c .before .before .before .before .before .before .before .before .before .before .before .before .before .before .before .if1 .left)) (then (c .before .before .before .before .before .before .before .before .before .before .before .before .before .before .before .before .before .before .put-answer-of .ensures) (then (then (c .before .before .before .before .before .before .before .before .before .before .before .before .before .put-series .ensures) q) (c .before .before .put2 .ensures)))
 
 pub block-line-spec : {M : Type 1} → statement M
-block-line-spec = tie.close (tie.spec (search needs) (search needs) (search needs) (search needs) returns (search needs) (search needs) (search needs) (search needs) (search needs) (search needs) (search needs) (search needs) returns-2)
+block-line-spec = tie.close (tie.spec (λ c κs. tt) (λ c. omega arith) (λ c κs. tt) (search needs) returns (λ c κs. tt) (λ c κs. tt) (λ c κs. tt) (λ c. omega arith) (search needs) (λ c. omega arith) (λ c κs. tt) (search needs) returns-2)

@@ -1,5 +1,5 @@
 -- The answer, and the newline of a refusal, else what the plain run says.
-use Rattle.laws.specs.Kit.{needs}
+use Rattle.laws.specs.Kit.{needs, arith}
 use Rattle.laws.specs.Tests.Laws.{is-equal, is-other}
 use Rattle.paper.specs.Listing.{text}
 use Rattle.desk_lines.specs.Lines.{telling, plainText, plainLine}
@@ -20,4 +20,4 @@ unfolding plainLine plainText telling text
 returns-3 c = rw (is-equal _ _ (c .before .before .before .before .before .before .if1 .left), c .before .before .before .before .before .if2 .left) (then (c .before .before .before .before .before .before .before .before .before .before .put-answer-of .ensures) (c .before .before .put3 .ensures))
 
 pub plain-line-spec : {M : Type 1} → statement M
-plain-line-spec = tie.close (tie.spec (search needs) (search needs) (search needs) (search needs) returns (search needs) (search needs) (search needs) returns-2 (search needs) (search needs) (search needs) returns-3)
+plain-line-spec = tie.close (tie.spec (λ c κs. tt) (λ c. omega arith) (λ c κs. tt) (search needs) returns (λ c. omega arith) (λ c κs. tt) (search needs) returns-2 (λ c. omega arith) (λ c κs. tt) (search needs) returns-3)

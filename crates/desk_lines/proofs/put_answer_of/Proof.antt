@@ -9,4 +9,4 @@ unfolding answerOf
 returns c = rw (c .before .before .before .reason-code .ensures) at (c .before .before .put-answer .ensures)
 
 pub put-answer-of-spec : {M : Type 1} → statement M
-put-answer-of-spec = tie.close (tie.spec (search needs) (search needs) (search needs) returns)
+put-answer-of-spec = tie.close (tie.spec (λ c κs. tt) (λ c κs. tt) (search needs) returns)

@@ -1,5 +1,5 @@
 -- Nothing, or the letter and then the two digits.
-use Rattle.laws.specs.Kit.{needs}
+use Rattle.laws.specs.Kit.{needs, arith}
 use Rattle.laws.specs.Tests.Laws.{is-equal, is-other}
 use Rattle.paper.specs.Listing.{text}
 use Rattle.desk_lines.specs.Lines.{codeText}
@@ -16,4 +16,4 @@ unfolding codeText text
 returns-2 c = rw (is-other _ _ (c .before .before .before .before .before .before .before .before .before .if1 .left)) (then (c .before .before .before .before .before .before .put2 .ensures) (c .before .before .put-digits .ensures))
 
 pub put-code-spec : {M : Type 1} → statement M
-put-code-spec = tie.close (tie.spec (search needs) (search needs) (search needs) returns (search needs) (search needs) (search needs) (search needs) returns-2)
+put-code-spec = tie.close (tie.spec (λ c. omega arith) (λ c κs. tt) (search needs) returns (λ c. omega arith) (λ c κs. tt) (search needs) (search needs) returns-2)

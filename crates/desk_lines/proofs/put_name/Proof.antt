@@ -1,5 +1,5 @@
 -- The fields are the block's, and stand one behind the other.
-use Rattle.laws.specs.Kit.{needs, ap}
+use Rattle.laws.specs.Kit.{needs, arith, ap}
 use Rattle.paper.specs.Listing.{text}
 use Rattle.desk_lines.specs.Lines.{worded, nameText}
 use Rattle.desk_text.specs.Put.Laws.{called, then}
@@ -15,4 +15,4 @@ returns c =
     then (then (then i v) b) (rw (c .before .before .before .out-party .ensures) at (c .before .before .put-field3 .ensures))
 
 pub put-name-spec : {M : Type 1} → statement M
-put-name-spec = tie.close (tie.spec (search needs) (search needs) (search needs) (search needs) (search needs) (search needs) (search needs) (search needs) (search needs) (search needs) (search needs) (search needs) (search needs) (search needs) (search needs) returns)
+put-name-spec = tie.close (tie.spec (λ c. omega arith) (λ c κs. tt) (λ c κs. tt) (λ c κs. tt) (λ c. omega arith) (λ c κs. tt) (λ c. omega arith) (λ c κs. tt) (λ c. omega arith) (λ c κs. tt) (λ c κs. tt) (λ c. omega arith) (λ c κs. tt) (λ c κs. tt) (search needs) returns)

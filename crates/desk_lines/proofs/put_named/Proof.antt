@@ -1,5 +1,5 @@
 -- Nothing, or the word and the number.
-use Rattle.laws.specs.Kit.{needs}
+use Rattle.laws.specs.Kit.{needs, arith}
 use Rattle.laws.specs.Tests.Laws.{is-equal, is-other}
 use Rattle.desk_lines.specs.Lines.{named}
 use Rattle.desk_lines.proofs.put_named.Statement.{statement}
@@ -14,4 +14,4 @@ unfolding named
 returns-2 c = rw (is-other _ _ (c .before .before .before .before .if1 .left)) (c .before .before .put-worded .ensures)
 
 pub put-named-spec : {M : Type 1} → statement M
-put-named-spec = tie.close (tie.spec (search needs) (search needs) (search needs) returns (search needs) (search needs) returns-2)
+put-named-spec = tie.close (tie.spec (λ c. omega arith) (λ c κs. tt) (search needs) returns (λ c κs. tt) (search needs) returns-2)

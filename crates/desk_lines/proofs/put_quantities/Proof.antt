@@ -25,4 +25,4 @@ unfolding text
 returns c = let e : c .before .loop .k ≡ c .before .before .before .before .before .before .before .before .before .args .n = omega arith in then (c .before .before .before .before .put .ensures) (called _ (ap (quantitiesText _) e) (c .before .loop .inv .2))
 
 pub put-quantities-spec : {M : Type 1} → statement M
-put-quantities-spec = tie.close (tie.spec Inv-loop μ-loop (search needs) (search needs) loop-holds (search needs) (search needs) (search needs) loop-again (search needs) returns)
+put-quantities-spec = tie.close (tie.spec Inv-loop μ-loop (λ c. omega arith) (λ c κs. tt) loop-holds (search needs) (λ c. omega arith) (λ c. omega arith) loop-again (search needs) returns)

@@ -1,5 +1,5 @@
 -- Name and mark stand one behind the other, and the mark's fields are the block's.
-use Rattle.laws.specs.Kit.{needs}
+use Rattle.laws.specs.Kit.{needs, arith}
 use Rattle.paper.specs.Listing.{text}
 use Rattle.desk_lines.specs.Lines.{seriesText}
 use Rattle.desk_text.specs.Put.Laws.{then}
@@ -11,4 +11,4 @@ unfolding seriesText text
 returns c = then (then (c .before .before .before .before .before .before .before .before .before .before .before .before .before .before .put-name .ensures) (c .before .before .before .before .before .before .before .before .before .put .ensures)) (rw (← c .before .before .before .before .before .state .ensures, ← c .before .before .before .before .first .ensures, ← c .before .before .before .partner .ensures) (c .before .before .put-mark .ensures))
 
 pub put-series-spec : {M : Type 1} → statement M
-put-series-spec = tie.close (tie.spec (search needs) (search needs) (search needs) (search needs) (search needs) (search needs) (search needs) (search needs) returns)
+put-series-spec = tie.close (tie.spec (λ c κs. tt) (λ c. omega arith) (λ c κs. tt) (λ c κs. tt) (λ c κs. tt) (λ c. omega arith) (λ c κs. tt) (search needs) returns)

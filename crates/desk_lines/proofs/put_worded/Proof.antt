@@ -10,4 +10,4 @@ unfolding worded
 returns c = then (c .before .before .before .before .before .before .put .ensures) (c .before .before .put-number .ensures)
 
 pub put-worded-spec : {M : Type 1} → statement M
-put-worded-spec = tie.close (tie.spec (search needs) (search needs) (search needs) returns)
+put-worded-spec = tie.close (tie.spec (λ c κs. tt) (λ c κs. tt) (search needs) returns)

@@ -1,5 +1,5 @@
 -- The answer, then the newline.
-use Rattle.laws.specs.Kit.{needs}
+use Rattle.laws.specs.Kit.{needs, arith}
 use Rattle.paper.specs.Listing.{text}
 use Rattle.desk_lines.specs.Lines.{verdictLine}
 use Rattle.desk_text.specs.Put.Laws.{then}
@@ -11,4 +11,4 @@ unfolding verdictLine text
 returns c = then (c .before .before .before .before .before .before .before .put-answer .ensures) (c .before .before .put .ensures)
 
 pub verdict-line-spec : {M : Type 1} → statement M
-verdict-line-spec = tie.close (tie.spec (search needs) (search needs) (search needs) (search needs) returns)
+verdict-line-spec = tie.close (tie.spec (λ c κs. tt) (λ c. omega arith) (λ c κs. tt) (search needs) returns)
