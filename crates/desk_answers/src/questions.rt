@@ -1,5 +1,4 @@
 // The calls that read a book, and those that need none.
-ghost use mathlib.Core.Path.{_≡_};
 ghost use Rattle.paper.specs.Eic.{eicValid};
 ghost use Rattle.paper.specs.QuantityText.{quantityRead};
 ghost use Rattle.paper.specs.Readings.{markAnswer, acceptedBlock};

@@ -1,7 +1,7 @@
 -- The desk's answers as lines: accepted or refused, document 01's number, its reason code, where a rule is broken, what that means, and what was asked for.
 use mathlib.Core.Bool.{Bool, cond}
-use mathlib.Core.List.{List, [], _∷_, _++_}
-use Prim.Native.Nat.{ℕ, zero, suc, _+_}
+use mathlib.Core.List.{[], _∷_, _++_}
+use Prim.Native.Nat.{ℕ, zero, suc}
 use Rattle.laws.specs.Tests.{is, less}
 use Rattle.paper.specs.declared.DayState.{DayState}
 use Rattle.paper.specs.declared.Verdict.{Verdict}

@@ -1,7 +1,7 @@
 -- Laws of the loops: a text put byte by byte, its pieces passed by, the command that a word names.
-use mathlib.Core.Path.{_≡_, refl, sym, ap, _∙_}
+use mathlib.Core.Path.{_≡_, sym, ap, _∙_}
 use mathlib.Core.Bool.{true, false}
-use mathlib.Core.List.{List, _∷_}
+use mathlib.Core.List.{List}
 use Prim.Native.Nat.{ℕ, zero, suc, _+_, _-_, _≤_, _<_}
 use native.Mathlib.Numerals.{add-one}
 use native.Mathlib.Omega.{arith}
@@ -11,7 +11,7 @@ use Rattle.laws.specs.Lists.{same}
 use Rattle.laws.specs.Bytes.{written}
 use Rattle.laws.specs.Bytes.Laws.{written-none, written-cons}
 use Rattle.laws.specs.Slices.{written-past}
-use Rattle.desk_text.specs.Put.{within, Put}
+use Rattle.desk_text.specs.Put.{Put}
 use Rattle.desk_text.specs.Put.Laws.{within-inside, within-past}
 use Rattle.desk_text.specs.Words.{firstPiece, pastPiece, pastPieces, lineNumbered, commands}
 use Rattle.desk_text.specs.Arguments.{commandFrom}

@@ -2,10 +2,10 @@
 use block::check::check_bytes;
 use block::numbers::number_4;
 use field::part_of;
+use field::within;
 use libc::STDOUT_FILENO;
 use stream::input;
 use stream::line;
-use stream::parts::within;
 use stream::told::Told;
 use stream::told::nothing;
 use stream::told::one;

@@ -2,8 +2,8 @@
 ghost use mathlib.Core.Path.{_≡_};
 ghost use Prim.Native.Nat.{_<_};
 ghost use Rattle.stream.specs.Records.{lawful};
-use crate::parts::within;
 use block::numbers::number_4;
+use field::within;
 use libc::STDIN_FILENO;
 
 pub enum Head {

@@ -2,5 +2,4 @@
 pub mod fields;
 pub mod input;
 pub mod line;
-pub mod parts;
 pub mod told;

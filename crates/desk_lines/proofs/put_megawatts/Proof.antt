@@ -1,5 +1,5 @@
 -- What printing put into the eight bytes, up to the length that it answered, is the quantity's text.
-use Rattle.laws.specs.Kit.{needs, arith, refl, ap, _∙_}
+use Rattle.laws.specs.Kit.{needs, arith, refl, _∙_}
 use lib.ListN.{replicate}
 use Rattle.desk_text.specs.Put.Laws.{called}
 use Rattle.desk_lines.proofs.Laws.{printed-part}

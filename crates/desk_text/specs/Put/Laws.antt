@@ -1,5 +1,5 @@
 -- Laws of text that grows piece by piece.
-use mathlib.Core.Path.{_≡_, refl, sym, ap, _∙_}
+use mathlib.Core.Path.{_≡_, sym, ap, _∙_}
 use mathlib.Core.List.{List, [], _++_}
 use Prim.Native.Nat.{ℕ, _+_, _≤_, _<_}
 use native.Mathlib.Nat.{add-zero, add-assoc}
@@ -22,12 +22,6 @@ pub within-past : (a m : ℕ) → m ≤ a → within a m ≡ m
 unfolding within
 within-past a m h =
     split (less m a) (λ e. rw e) (λ e. rw e (let l : a ≤ m = less-no m a e in let q : a ≡ m = omega arith in q))
-
-pub within-most : (a m : ℕ) → within a m ≤ m
-within-most a m =
-    split (less m a)
-    (λ e. let l : m < a = less-yes m a e in rw (within-past a m (omega arith)) (omega arith))
-    (λ e. rw (within-inside a m (less-no m a e)) (less-no m a e))
 
 within-add : (a b m : ℕ) → within (within a m + b) m ≡ within (a + b) m
 within-add a b m =

@@ -10,4 +10,7 @@ cast-result c =
     omega (arith, first-small (k .before .args .x .now) (k .shared-slice-known .given), c .before .first .ensures)
 
 pub first-number-spec : {M : Type 1} → statement M
-first-number-spec = tie.close (tie.spec (search needs) cast-result (search needs))
+first-number-spec = tie.close (tie.spec
+    (λ c κs. tt)
+    cast-result
+    (search needs))

@@ -1,5 +1,5 @@
 -- The definition's two questions, in its order; a book of at most 64 blocks has at most 63 slots.
-use Rattle.laws.specs.Kit.{needs, told, denied}
+use Rattle.laws.specs.Kit.{needs, arith, told, denied}
 use Rattle.paper.specs.Listing.{text}
 use Rattle.listing_text.proofs.Laws.Whole.{listing-long, listing-unsound, listing-sound, used-few}
 use Rattle.listing_text.proofs.listing.Statement.{statement}
@@ -31,4 +31,17 @@ returns-3 c =
 pub listing-spec : {M : Type 1} → statement M
 listing-spec =
     tie.close
-    (tie.spec (search needs) (λ c κs. search needs) (search needs) returns (λ c κs. search needs) (search needs) (λ c κs. search needs) (search needs) returns-2 (λ c κs. search needs) put-listing-if-room-requires (search needs) returns-3)
+    (tie.spec
+    (λ c. omega arith)
+    (λ c κs. search needs)
+    (search needs)
+    returns
+    (λ c κs. search needs)
+    (λ c. omega arith)
+    (λ c κs. search needs)
+    (search needs)
+    returns-2
+    (λ c κs. search needs)
+    put-listing-if-room-requires
+    (search needs)
+    returns-3)

@@ -5,4 +5,8 @@ use Rattle.listing_text.proofs.put_byte.Statement.{statement}
 use Rattle.listing_text.proofs.put_byte.Tie as tie
 
 pub put-byte-spec : {M : Type 1} → statement M
-put-byte-spec = tie.close (tie.spec (search needs) (search needs) (search needs) (λ c. sym (set-out _ _ _ (omega arith))))
+put-byte-spec = tie.close (tie.spec
+    (λ c. omega arith)
+    (search needs)
+    (search needs)
+    (λ c. sym (set-out _ _ _ (omega arith))))

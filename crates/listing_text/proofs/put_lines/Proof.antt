@@ -1,5 +1,5 @@
 -- The lines still to put, over the buffer as it stands, give what all of them give over the buffer as it came.
-use Rattle.laws.specs.Kit.{needs, _≡_, refl, _≤_, _+_, _*_, _-_, _/_, length, drop, step-cut-at, end-cut}
+use Rattle.laws.specs.Kit.{needs, arith, _≡_, refl, _≤_, _+_, _*_, _-_, _/_, length, drop, step-cut-at, end-cut}
 use Rattle.laws.specs.Bytes.{written}
 use Rattle.laws.specs.Cut.{cut}
 use Rattle.paper.specs.Listing.{seriesLines}
@@ -28,4 +28,13 @@ returns c = lines-end _ _ (end-cut _ _ _ (c .loop-test .left)) (c .before .loop 
 
 pub put-lines-spec : {M : Type 1} → statement M
 put-lines-spec =
-    tie.close (tie.spec Inv-loop μ-loop loop-holds (λ c κs. search needs) (search needs) (search needs) loop-again (search needs) returns)
+    tie.close (tie.spec
+    Inv-loop
+    μ-loop
+    loop-holds
+    (λ c κs. search needs)
+    (λ c. omega arith)
+    (λ c. omega arith)
+    loop-again
+    (search needs)
+    returns)

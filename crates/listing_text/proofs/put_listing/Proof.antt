@@ -16,4 +16,9 @@ returns c =
     then (l .before .before .before .before .put-text .ensures) (l .put-lines .ensures)
 
 pub put-listing-spec : {M : Type 1} → statement M
-put-listing-spec = tie.close (tie.spec (search needs) (λ c κs. search needs) put-lines-requires (search needs) returns)
+put-listing-spec = tie.close (tie.spec
+    (λ c. omega arith)
+    (λ c κs. search needs)
+    put-lines-requires
+    (search needs)
+    returns)

@@ -1,5 +1,5 @@
 -- The place behind the text is its length, whatever the buffer.
-use Rattle.laws.specs.Kit.{needs, _∙_}
+use Rattle.laws.specs.Kit.{needs, arith, _∙_}
 use native.Mathlib.Nat.{zero-add}
 use Rattle.listing_text.proofs.Laws.Whole.{too-short, room-enough}
 use Rattle.listing_text.proofs.put_listing_if_room.Statement.{statement}
@@ -15,4 +15,10 @@ returns-2 c =
     room-enough _ _ _ (e .before .before .put-listing .ensures .place ∙ zero-add _) (e .if1 .left) (p .put-listing2 .ensures)
 
 pub put-listing-if-room-spec : {M : Type 1} → statement M
-put-listing-if-room-spec = tie.close (tie.spec (search needs) (λ c κs. search needs) returns (λ c κs. search needs) (search needs) returns-2)
+put-listing-if-room-spec = tie.close (tie.spec
+    (λ c. omega arith)
+    (λ c κs. search needs)
+    returns
+    (λ c κs. search needs)
+    (search needs)
+    returns-2)

@@ -1,5 +1,5 @@
 -- Each number is the definition's.
-use Rattle.laws.specs.Kit.{needs}
+use Rattle.laws.specs.Kit.{needs, arith}
 use Rattle.listing_text.specs.Text.{marks}
 use Rattle.listing_text.proofs.Laws.{then}
 use Rattle.listing_text.proofs.Laws.Line.{number-as}
@@ -21,4 +21,13 @@ returns c =
 pub put-mark-spec : {M : Type 1} → statement M
 put-mark-spec =
     tie.close
-    (tie.spec (λ c κs. search needs) (search needs) (λ c κs. search needs) (λ c κs. search needs) (λ c κs. search needs) (λ c κs. search needs) (λ c κs. search needs) (search needs) returns)
+    (tie.spec
+    (λ c κs. search needs)
+    (λ c. omega arith)
+    (λ c κs. search needs)
+    (λ c κs. search needs)
+    (λ c κs. search needs)
+    (λ c κs. search needs)
+    (λ c κs. search needs)
+    (search needs)
+    returns)

@@ -31,4 +31,15 @@ returns c =
 pub put-names-spec : {M : Type 1} → statement M
 put-names-spec =
     tie.close
-    (tie.spec (search needs) (λ c κs. search needs) (λ c κs. search needs) (λ c κs. search needs) (λ c κs. search needs) put-word-requires (λ c κs. search needs) (λ c κs. search needs) put-word-requires-2 (search needs) returns)
+    (tie.spec
+    (λ c. omega arith)
+    (λ c κs. search needs)
+    (λ c κs. search needs)
+    (λ c κs. search needs)
+    (λ c κs. search needs)
+    put-word-requires
+    (λ c κs. search needs)
+    (λ c κs. search needs)
+    put-word-requires-2
+    (search needs)
+    returns)

@@ -1,5 +1,5 @@
 -- The digits, then the byte that ends them.
-use Rattle.laws.specs.Kit.{needs}
+use Rattle.laws.specs.Kit.{needs, arith}
 use Rattle.listing_text.proofs.Laws.{put, then-byte}
 use Rattle.listing_text.proofs.put_number.Statement.{statement}
 use Rattle.listing_text.proofs.put_number.Tie as tie
@@ -11,4 +11,10 @@ returns c =
     (then-byte _ (put (d .decimal .ensures .0) (d .decimal .ensures .2)) (p .put-byte .ensures), search needs)
 
 pub put-number-spec : {M : Type 1} → statement M
-put-number-spec = tie.close (tie.spec (λ c κs. search needs) (search needs) (λ c κs. search needs) (search needs) (search needs) returns)
+put-number-spec = tie.close (tie.spec
+    (λ c κs. search needs)
+    (λ c. omega arith)
+    (λ c κs. search needs)
+    (λ c. omega arith)
+    (search needs)
+    returns)

@@ -1,5 +1,5 @@
 -- No line is put for a block that is no series; one is put for a series, and its slot is one more than the blocks before it.
-use Rattle.laws.specs.Kit.{needs, ap, _∙_, told, denied}
+use Rattle.laws.specs.Kit.{needs, arith, ap, _∙_, told, denied}
 use Rattle.paper.specs.Book.{isSeries}
 use Rattle.listing_text.proofs.Laws.Line.{slot-none, slot-line}
 use Rattle.listing_text.proofs.put_slot.Statement.{statement}
@@ -20,4 +20,11 @@ returns-2 c =
 
 pub put-slot-spec : {M : Type 1} → statement M
 put-slot-spec =
-    tie.close (tie.spec (λ c κs. search needs) (λ c κs. search needs) returns (search needs) (λ c κs. search needs) (search needs) returns-2)
+    tie.close (tie.spec
+    (λ c κs. search needs)
+    (λ c κs. search needs)
+    returns
+    (λ c. omega arith)
+    (λ c κs. search needs)
+    (search needs)
+    returns-2)

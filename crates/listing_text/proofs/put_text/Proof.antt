@@ -28,4 +28,16 @@ returns c =
 pub put-text-spec : {M : Type 1} → statement M
 put-text-spec =
     tie.close
-    (tie.spec Inv-loop μ-loop loop-holds (search needs) (search needs) (λ c κs. search needs) (search needs) (search needs) loop-again (search needs) (search needs) returns)
+    (tie.spec
+    Inv-loop
+    μ-loop
+    loop-holds
+    (search needs)
+    (λ c. omega arith)
+    (λ c κs. search needs)
+    (λ c. omega arith)
+    (λ c. omega arith)
+    loop-again
+    (λ c. omega arith)
+    (search needs)
+    returns)

@@ -11,4 +11,9 @@ returns c =
     (then-byte _ t (p .put-byte .ensures), omega (arith, t .place))
 
 pub put-word-spec : {M : Type 1} → statement M
-put-word-spec = tie.close (tie.spec (λ c κs. search needs) (λ c κs. search needs) (search needs) (search needs) returns)
+put-word-spec = tie.close (tie.spec
+    (λ c κs. search needs)
+    (λ c κs. search needs)
+    (λ c. omega arith)
+    (search needs)
+    returns)

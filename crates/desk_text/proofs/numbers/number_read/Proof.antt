@@ -1,5 +1,5 @@
 -- The code asks the definition's three questions in its order.
-use Rattle.laws.specs.Kit.{needs, arith, told, denied, sym, _∙_}
+use Rattle.laws.specs.Kit.{needs, told, denied, _∙_}
 use Rattle.laws.specs.Tests.Laws.{and-no-left, and-no-right, upto-false}
 use Rattle.desk_text.proofs.Digits.{read-not, read-number}
 use Rattle.desk_text.proofs.numbers.number_read.Statement.{statement}

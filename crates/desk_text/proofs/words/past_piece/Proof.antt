@@ -1,6 +1,5 @@
 -- The piece that starts at a place ends as many bytes behind it as it is long, and the byte that ends it is passed with it.
-use Rattle.laws.specs.Kit.{needs, arith, _≡_, ap, _∙_, length}
-use denote.Ref.{now}
+use Rattle.laws.specs.Kit.{needs}
 use Rattle.laws.specs.Slices.{rest-slice}
 use Rattle.desk_text.specs.Words.{firstPiece}
 use Rattle.desk_text.proofs.Laws.{past-piece-go, past-piece-end}

@@ -1,5 +1,5 @@
 -- The pieces still to pass, from the place reached, leave what all of them leave from the start.
-use Rattle.laws.specs.Kit.{needs, arith, _≡_, refl, _≤_, length, drop}
+use Rattle.laws.specs.Kit.{needs, _≡_, refl, _≤_, length, drop}
 use Rattle.desk_text.specs.Words.{pastPieces}
 use Rattle.desk_text.proofs.Laws.{pieces-turn, pieces-end}
 use Rattle.desk_text.proofs.words.past_pieces.Statement.{statement}

@@ -1,8 +1,7 @@
 -- The bytes in the code are the rows of the definition.
-use Prim.Native.String.{_∷_}
-use Rattle.laws.specs.Kit.{needs, refl, ap, _∙_}
+use Rattle.laws.specs.Kit.{needs}
 use Rattle.paper.specs.Listing.{text}
-use Rattle.desk_text.specs.Words.{lines, lineNumbered, meanings, meaning}
+use Rattle.desk_text.specs.Words.{lines, meanings, meaning}
 use Rattle.desk_text.specs.Put.Laws.{called}
 use Rattle.desk_text.proofs.words.put_meaning.Statement.{statement}
 use Rattle.desk_text.proofs.words.put_meaning.Tie as tie

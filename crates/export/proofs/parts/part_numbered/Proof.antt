@@ -1,5 +1,5 @@
 -- The three returns are the three cases of the definition.
-use Rattle.laws.specs.Kit.{needs, _∙_}
+use Rattle.laws.specs.Kit.{arith, _∙_}
 use Rattle.export.proofs.Laws.{part-first, part-past, part-inside}
 use Rattle.export.proofs.parts.part_numbered.Statement.{statement}
 use Rattle.export.proofs.parts.part_numbered.Tie as tie
@@ -8,9 +8,9 @@ pub part-numbered-spec : {M : Type 1} → statement M
 part-numbered-spec =
     tie.close
     (tie.spec
-    (search needs)
+    (λ c κs. tt)
     (λ c. c .nothing .ensures ∙ part-first _ _ (c .before .if1 .taken))
-    (search needs)
+    (λ c κs. tt)
     (λ c. c .nothing2 .ensures ∙ part-past _ _ (c .before .before .if1 .left) (c .before .if2 .taken))
-    (search needs)
+    (λ c. omega arith)
     (λ c. part-inside _ _ (c .before .if1 .left) (c .if2 .left)))

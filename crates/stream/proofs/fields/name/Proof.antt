@@ -1,5 +1,5 @@
 -- The code is the definition.
-use Rattle.laws.specs.Kit.{needs}
+use Rattle.laws.specs.Kit.{needs, arith}
 use Rattle.stream.specs.Fields.{nameAt}
 use Rattle.stream.proofs.fields.name.Statement.{statement}
 use Rattle.stream.proofs.fields.name.Tie as tie
@@ -9,4 +9,9 @@ unfolding nameAt
 returns c = cc
 
 pub name-spec : {M : Type 1} → statement M
-name-spec = tie.close (tie.spec (λ c κs. search needs) (λ c κs. search needs) (search needs) (λ c κs. search needs) returns)
+name-spec = tie.close (tie.spec
+    (λ c κs. search needs)
+    (λ c κs. search needs)
+    (λ c. omega arith)
+    (λ c κs. search needs)
+    returns)

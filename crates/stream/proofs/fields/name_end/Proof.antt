@@ -31,4 +31,13 @@ returns-4 c =
     some _ _ _ (b .byte-or-zero .ensures) (omega (arith, b .before .if1 .left)) (omega (arith, c .before .if2 .left)) (omega (arith, c .if3 .left, b .before .if1 .left))
 
 pub name-end-spec : {M : Type 1} → statement M
-name-end-spec = tie.close (tie.spec returns (λ c κs. search needs) (search needs) returns-2 (search needs) returns-3 (search needs) (search needs) returns-4)
+name-end-spec = tie.close (tie.spec
+    returns
+    (λ c κs. search needs)
+    (λ c. omega arith)
+    returns-2
+    (λ c. omega arith)
+    returns-3
+    (λ c. omega arith)
+    (λ c. omega arith)
+    returns-4)

@@ -1,5 +1,5 @@
 -- The code's two tables are the definition's.
-use Rattle.laws.specs.Kit.{needs}
+use Rattle.laws.specs.Kit.{needs, arith}
 use Rattle.laws.specs.Tests.{_and_, upto}
 use Rattle.stream.specs.Records.{fewest, most, lawful}
 use Rattle.stream.proofs.input.lawful.Statement.{statement}
@@ -10,4 +10,9 @@ unfolding lawful fewest most _and_ upto
 returns c = search needs
 
 pub lawful-spec : {M : Type 1} → statement M
-lawful-spec = tie.close (tie.spec (search needs) (search needs) (search needs) (search needs) returns)
+lawful-spec = tie.close (tie.spec
+    (λ c. omega arith)
+    (λ c. omega arith)
+    (λ c. omega arith)
+    (λ c. omega arith)
+    returns)

@@ -15,4 +15,9 @@ unfolding toldLine
 returns-2 c = let p = c .before .before in rw (is-other _ _ (p .before .before .before .if1 .left)) (p .answer-with .ensures)
 
 pub answer-spec : {M : Type 1} → statement M
-answer-spec = tie.close (tie.spec returns (search needs) (search needs) (search needs) returns-2)
+answer-spec = tie.close (tie.spec
+    returns
+    (λ c. omega arith)
+    (search needs)
+    (search needs)
+    returns-2)

@@ -1,5 +1,5 @@
 -- The code asks the definition's question.
-use Rattle.laws.specs.Kit.{needs}
+use Rattle.laws.specs.Kit.{arith}
 use Rattle.laws.specs.Tests.Laws.{less-true, less-false}
 use Rattle.stream.specs.Line.{hexDigit}
 use Rattle.stream.proofs.line.hex_digit.Statement.{statement}
@@ -14,4 +14,8 @@ unfolding hexDigit
 returns-2 c = rw (less-false _ _ (c .if1 .left))
 
 pub hex-digit-spec : {M : Type 1} → statement M
-hex-digit-spec = tie.close (tie.spec (search needs) (search needs) returns returns-2)
+hex-digit-spec = tie.close (tie.spec
+    (λ c. omega arith)
+    (λ c. omega arith)
+    returns
+    returns-2)

@@ -1,5 +1,5 @@
 -- The four pieces stand one behind the other.
-use Rattle.laws.specs.Kit.{needs}
+use Rattle.laws.specs.Kit.{needs, arith}
 use Rattle.desk_text.specs.Put.Laws.{then}
 use Rattle.stream.specs.Line.{answerLine}
 use Rattle.stream.proofs.line.put_answer.Statement.{statement}
@@ -15,4 +15,11 @@ returns c =
     then (then (then (w .put .ensures) (n .put-numbers .ensures)) (b .put-bytes .ensures)) (e .put2 .ensures)
 
 pub put-answer-spec : {M : Type 1} → statement M
-put-answer-spec = tie.close (tie.spec (search needs) (search needs) (search needs) (search needs) (search needs) (search needs) returns)
+put-answer-spec = tie.close (tie.spec
+    (search needs)
+    (search needs)
+    (search needs)
+    (λ c. omega arith)
+    (search needs)
+    (search needs)
+    returns)

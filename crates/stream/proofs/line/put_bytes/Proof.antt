@@ -1,5 +1,5 @@
 -- No bytes are no text; others stand behind the space.
-use Rattle.laws.specs.Kit.{needs}
+use Rattle.laws.specs.Kit.{needs, arith}
 use Rattle.laws.specs.Tests.Laws.{is-equal, is-other}
 use Rattle.desk_text.specs.Put.Laws.{none, then}
 use Rattle.stream.specs.Line.{bytesText}
@@ -18,4 +18,10 @@ returns-2 c =
     rw (is-other _ _ (p .before .before .before .if1 .left)) (then (p .put .ensures) (h .put-hex .ensures))
 
 pub put-bytes-spec : {M : Type 1} → statement M
-put-bytes-spec = tie.close (tie.spec returns (search needs) (search needs) (search needs) (search needs) returns-2)
+put-bytes-spec = tie.close (tie.spec
+    returns
+    (λ c. omega arith)
+    (search needs)
+    (search needs)
+    (search needs)
+    returns-2)

@@ -1,5 +1,5 @@
 -- The bytes passed stand in the line, and the next goes behind them.
-use Rattle.laws.specs.Kit.{needs, _≡_, _≤_, _-_, length, take, step-byte, end-list}
+use Rattle.laws.specs.Kit.{needs, arith, _≡_, _≤_, _-_, length, take, step-byte, end-list}
 use Rattle.desk_text.specs.Put.{Put}
 use Rattle.stream.specs.Line.{hexByte, hexText, pieces}
 use Rattle.stream.specs.Line.Laws.{pieces-none, pieces-more, pieces-end}
@@ -28,4 +28,14 @@ returns c = pieces-end _ _ _ (end-list _ _ (c .loop-test .left)) (c .before .loo
 pub put-hex-spec : {M : Type 1} → statement M
 put-hex-spec =
     tie.close
-    (tie.spec Inv-loop μ-loop loop-holds (search needs) (search needs) (search needs) (search needs) loop-again (search needs) returns)
+    (tie.spec
+    Inv-loop
+    μ-loop
+    loop-holds
+    (search needs)
+    (search needs)
+    (λ c. omega arith)
+    (λ c. omega arith)
+    loop-again
+    (search needs)
+    returns)

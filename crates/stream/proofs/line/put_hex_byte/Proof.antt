@@ -1,5 +1,5 @@
 -- The higher digit, then the lower.
-use Rattle.laws.specs.Kit.{needs}
+use Rattle.laws.specs.Kit.{needs, arith}
 use Rattle.stream.specs.Line.{hexByte}
 use Rattle.stream.proofs.line.put_hex_byte.Statement.{statement}
 use Rattle.stream.proofs.line.put_hex_byte.Tie as tie
@@ -12,4 +12,10 @@ returns c =
     rw (← low .before .hex-digit .ensures, ← low .hex-digit2 .ensures) (p .put .ensures)
 
 pub put-hex-byte-spec : {M : Type 1} → statement M
-put-hex-byte-spec = tie.close (tie.spec (search needs) (search needs) (search needs) (search needs) (search needs) returns)
+put-hex-byte-spec = tie.close (tie.spec
+    (search needs)
+    (search needs)
+    (λ c. omega arith)
+    (search needs)
+    (search needs)
+    returns)
