@@ -29,20 +29,19 @@ pub fn check_step(c: u32, byte: u8) -> u32
     std::num::wrapping_add_u32(thirty_one_times(c), byte as u32)
 }
 
-// The check's own share after four steps: 31 to the fourth times it.
-fn after_four_steps(check: u32) -> u32
-    ensures { λ r. ⌜ r ≡ (923521 * check) % 4294967296 ⌝ }
-{
-    thirty_one_times(thirty_one_times(thirty_one_times(thirty_one_times(check))))
-}
-
 // Four steps. The check waits for none of the four bytes' own sums, and a compiler makes one multiplication of doublings of doublings: each byte
 // costs less than a step by itself.
 fn check_four_bytes(c: u32, w: u8, x: u8, y: u8, z: u8) -> u32
     ensures { λ r. ⌜ r ≡ checkStep (checkStep (checkStep (checkStep c w) x) y) z ⌝ }
 {
-    let bytes = check_step(check_step(check_step(w as u32, x), y), z);
-    std::num::wrapping_add_u32(after_four_steps(c), bytes)
+    let four = thirty_one_times(thirty_one_times(thirty_one_times(thirty_one_times(c))));
+    let three = thirty_one_times(thirty_one_times(thirty_one_times(w as u32)));
+    let two = thirty_one_times(thirty_one_times(x as u32));
+    let one = std::num::wrapping_add_u32(thirty_one_times(y as u32), z as u32);
+    std::num::wrapping_add_u32(
+        four,
+        std::num::wrapping_add_u32(three, std::num::wrapping_add_u32(two, one)),
+    )
 }
 
 fn check_four_at(c: u32, s: &[u8], i: usize) -> u32

@@ -28,30 +28,29 @@ times n k =
     let e : 31 * n + k ≡ 31 * (n % 4294967296) + k + 4294967296 * (31 * (n / 4294967296)) = omega arith in
     sym (ap (λ m. m % 4294967296) e ∙ add-mul-mod-self-left (31 * (n % 4294967296) + k) 4294967296 (31 * (n / 4294967296)))
 
--- a step by a product and a sum that wrap
-step : (c b : ℕ) → checkStep c b ≡ (31 * c + b) % 4294967296
+pub step : (c b : ℕ) → checkStep c b ≡ (31 * c + b) % 4294967296
 unfolding checkStep
 step c b = let z : 32 * c - c ≡ 31 * c = omega arith in rw z
 
+-- a step by a product and a sum that wrap
 pub stepped : (c b : ℕ) {t r : ℕ} → t ≡ (31 * c) % 4294967296 → r ≡ (t + b) % 4294967296 → r ≡ checkStep c b
 stepped c b e f = rw (f, e, step c b) (mod-add-mod (31 * c) 4294967296 b)
 
--- a step from a check that wrapped
-step-on : (n b : ℕ) → checkStep (n % 4294967296) b ≡ (31 * n + b) % 4294967296
-step-on n b = step (n % 4294967296) b ∙ times n b
-
-three-steps : (c x y z : ℕ) → checkStep (checkStep (checkStep c x) y) z ≡ (31 * (31 * (31 * c + x) + y) + z) % 4294967296
-three-steps c x y z = rw (step c x, step-on (31 * c + x) y, step-on (31 * (31 * c + x) + y) z)
-
--- four steps from c are the steps from the first byte, and 31 to the fourth times c
-pub four-steps : (c w x y z : ℕ) {t b r : ℕ} → t ≡ (923521 * c) % 4294967296 → b ≡ checkStep (checkStep (checkStep w x) y) z → r ≡ (t + b) % 4294967296
-    → r ≡ checkStep (checkStep (checkStep (checkStep c w) x) y) z
-four-steps c w x y z e f g =
-    let n : 923521 * c + (31 * (31 * (31 * w + x) + y) + z) ≡ 31 * (31 * (31 * (31 * c + w) + x) + y) + z = omega arith in
-    rw (g, e, f, three-steps w x y z, mod-add-mod, add-mod-mod, n, step c w, step-on (31 * c + w) x, step-on (31 * (31 * c + w) + x) y, step-on (31 * (31 * (31 * c + w) + x) + y) z)
+-- four steps from c are c, w, x, y, z times the powers of 31
+pub four-steps : (c w x y z : ℕ) → checkStep (checkStep (checkStep (checkStep c w) x) y) z ≡ (923521 * c + (29791 * w + (961 * x + (31 * y + z)))) % 4294967296
+four-steps c w x y z =
+    let e : 31 * (31 * (31 * (31 * c + w) + x) + y) + z ≡ 923521 * c + (29791 * w + (961 * x + (31 * y + z))) = omega arith in
+    rw (step c w) (rw (step ((31 * c + w) % 4294967296) x, times (31 * c + w) x)
+    (rw (step ((31 * (31 * c + w) + x) % 4294967296) y, times (31 * (31 * c + w) + x) y)
+    (rw (step ((31 * (31 * (31 * c + w) + x) + y) % 4294967296) z, times (31 * (31 * (31 * c + w) + x) + y) z) (ap (λ m. m % 4294967296) e))))
 
 -- one more factor of 31, by a product that wraps
 pub more : (k n : ℕ) {x y : ℕ} → x ≡ (k * n) % 4294967296 → y ≡ (31 * x) % 4294967296 → y ≡ (31 * k * n) % 4294967296
 more k n {x} {y} e f =
     let z : 31 * (k * n) ≡ 31 * k * n = omega arith in
     f ∙ rw (e, ← z) (rw (add-zero (31 * (k * n % 4294967296)), add-zero (31 * (k * n))) at (times (k * n) 0))
+
+-- sums that wrap
+pub summed : (a b d z : ℕ) {p q s t u v r : ℕ} → p ≡ a % 4294967296 → q ≡ b % 4294967296 → s ≡ d % 4294967296 → t ≡ z % 4294967296 → u ≡ (s + t) % 4294967296
+    → v ≡ (q + u) % 4294967296 → r ≡ (p + v) % 4294967296 → r ≡ (a + (b + (d + z))) % 4294967296
+summed a b d z e f g h i j k = simp (k, j, i, e, f, g, h, mod-add-mod, add-mod-mod)
