@@ -1,5 +1,5 @@
 -- The test told is the test answered.
-use Rattle.laws.specs.Kit.{needs}
+use Rattle.laws.specs.Kit.{refl}
 use Rattle.laws.specs.Tests.{is}
 use Rattle.commission.proofs.line.number.Statement.{statement}
 use Rattle.commission.proofs.line.number.Tie as tie
@@ -9,4 +9,4 @@ unfolding is
 returns c = c .verdict .ensures
 
 pub number-spec : {M : Type 1} → statement M
-number-spec = tie.close (tie.spec (λ c κs. search needs) (search needs) (λ c κs. search needs) (λ c κs. search needs) (search needs) (λ c κs. search needs) (λ c κs. search needs) (λ c κs. search needs) returns)
+number-spec = tie.close (tie.spec (λ c κs. tt) (λ c. refl) (λ c κs. tt) (λ c κs. tt) (λ c. refl) (λ c κs. tt) (λ c κs. tt) (λ c κs. tt) returns)
