@@ -72,7 +72,7 @@ fn one_more(fd: i32) -> isize {
 }
 
 // The whole file into the room, and its length; or a line that says why not.
-pub fn load(path: &[u8], room: &mut [u8], too_long: usize) -> usize {
+fn load(path: &[u8], room: &mut [u8], too_long: usize) -> usize {
     let fd = os::open_read(path);
     if fd < 0 {
         return not_opened(path);
@@ -87,6 +87,11 @@ pub fn load(path: &[u8], room: &mut [u8], too_long: usize) -> usize {
         return failed(path, too_long);
     }
     length
+}
+
+// The file that a word of the command names.
+pub fn load_word(words: &[u8], k: usize, room: &mut [u8], too_long: usize) -> usize {
+    load(word(words, k), room, too_long)
 }
 
 // ---- a change
@@ -206,18 +211,14 @@ fn answer_in(question: Question, book: &[u8], words: &[u8]) {
     say(part_of(&line, 0, k));
 }
 
-fn ask_in(question: Question, room: &mut [u8], words: &[u8]) {
-    let k = load(word(words, 2), room, NO_BOOK);
-    if k == NOT_LOADED {
-        return;
-    }
-    answer_in(question, part_of(room, 0, k), words);
-}
-
 // The one way of every reading: the book loaded, the answer said.
 pub fn ask(question: Question, words: &[u8]) {
     let mut room = [0u8; 512512];
-    ask_in(question, &mut room, words);
+    let k = load_word(words, 2, &mut room, NO_BOOK);
+    if k == NOT_LOADED {
+        return;
+    }
+    answer_in(question, part_of(&room, 0, k), words);
 }
 
 // What is asked of no book.

@@ -5,7 +5,7 @@ use crate::NOT_LOADED;
 use crate::begin;
 use crate::beside;
 use crate::change;
-use crate::load;
+use crate::load_word;
 use crate::replace;
 use crate::say;
 use desk_answers::Change;
@@ -14,18 +14,18 @@ use field::part_of;
 use field::within;
 use libc::STDOUT_FILENO;
 
-fn submit_in(words: &[u8], room: &mut [u8]) {
-    let k = load(word(words, 3), room, NO_MESSAGE);
-    if k == NOT_LOADED {
-        return;
-    }
-    change(Change::Submit, word(words, 2), part_of(room, 0, k));
+fn submit_loaded(words: &[u8], message: &[u8]) {
+    change(Change::Submit, word(words, 2), message);
 }
 
 // The message is loaded before the book is touched.
 pub fn submit(words: &[u8]) {
     let mut room = [0u8; 102912];
-    submit_in(words, &mut room);
+    let k = load_word(words, 3, &mut room, NO_MESSAGE);
+    if k == NOT_LOADED {
+        return;
+    }
+    submit_loaded(words, part_of(&room, 0, k));
 }
 
 fn wrong_line(number: usize) {
@@ -67,21 +67,17 @@ fn message_in(path: &[u8], text: &[u8], room: &mut [u8]) {
     write_beside(path, &room[..k]);
 }
 
-fn message_of(path: &[u8], text: &[u8]) {
+fn message_of(words: &[u8], text: &[u8]) {
     let mut room = [0u8; 102912];
-    message_in(path, text, &mut room);
-}
-
-fn message_by(words: &[u8], room: &mut [u8]) {
-    let k = load(word(words, 2), room, NO_TEXT);
-    if k == NOT_LOADED {
-        return;
-    }
-    message_of(word(words, 3), part_of(room, 0, k));
+    message_in(word(words, 3), text, &mut room);
 }
 
 // The text of the longest message has fewer bytes than the room.
 pub fn message(words: &[u8]) {
     let mut room = [0u8; 524288];
-    message_by(words, &mut room);
+    let k = load_word(words, 2, &mut room, NO_TEXT);
+    if k == NOT_LOADED {
+        return;
+    }
+    message_of(words, part_of(&room, 0, k));
 }
