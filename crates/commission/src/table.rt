@@ -1,4 +1,5 @@
-// Cases in a table of one text: a semicolon behind each row; in a row, between bars, a word of the desk or `check`, two arguments, the number expected and what is told.
+// Cases in a table of one text: a semicolon behind each row; in a row, between bars, a word of the desk or `check`, two arguments, the number expected, of five
+// digits at most, and what is told.
 use crate::book;
 use crate::leaves;
 use crate::line;
