@@ -1,5 +1,6 @@
 -- Laws that the proofs of this crate share.
 pub mod Order
+pub mod Quantities
 pub mod Places
 pub mod Rule7
 pub mod Series

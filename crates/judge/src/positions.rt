@@ -12,6 +12,7 @@ use rules::values::rule_12;
 use rules::values::rule_13;
 use rules::values::rule_14;
 use sound_blocks::day::closed;
+use sound_blocks::entries::quantities_allowed;
 
 // Position k + 1: of rules 11 and 12 the first that is broken, above n rule 13.
 fn quantity_at(n: usize, s: usize, y: &[u8], k: usize) -> Verdict
@@ -25,7 +26,7 @@ fn quantity_at(n: usize, s: usize, y: &[u8], k: usize) -> Verdict
 }
 
 // All hundred, since rule 13 is about the positions above n.
-pub fn quantity_verdict(n: usize, s: usize, y: &[u8]) -> Verdict
+fn first_refused(n: usize, s: usize, y: &[u8]) -> Verdict
     ensures { λ r. ⌜ r ≡ overPositions (quantityVerdict n s (now (y .entry))) ⌝ }
 {
     let mut k = 0;
@@ -37,6 +38,19 @@ pub fn quantity_verdict(n: usize, s: usize, y: &[u8]) -> Verdict
         k += 1;
     }
     fine()
+}
+
+// A verdict is made position by position only where some quantity is not allowed.
+pub fn quantity_verdict(n: usize, s: usize, y: &[u8]) -> Verdict
+    ensures { λ r. ⌜ r ≡ overPositions (quantityVerdict n s (now (y .entry))) ⌝ }
+{
+    if 100 < n {
+        return first_refused(n, s, y);
+    }
+    if quantities_allowed(n, y) {
+        return fine();
+    }
+    first_refused(n, s, y)
 }
 
 // Position k + 1.

@@ -1,6 +1,6 @@
 // What a sound book asks of one block: the ranges of its fields, the day block, a sender block, a series block.
 pub mod day;
-mod entries;
+pub mod entries;
 pub mod ranges;
 pub mod sender;
 pub mod series;

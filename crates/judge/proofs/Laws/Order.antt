@@ -39,7 +39,7 @@ open-later : (d : Block) (k p : ℕ) → closed d (k + 1) ≡ false → k ≤ p 
 unfolding closed isOpen
 open-later d k p e h = neg-false _ (upto-true _ _ (omega (arith, upto-yes _ _ (neg-no _ e))))
 
-along-fine : (f k : ℕ) → along numberOf fine (λ p. fine) f k ≡ fine
+pub along-fine : (f k : ℕ) → along numberOf fine (λ p. fine) f k ≡ fine
 unfolding along
 along-fine zero k = refl
 along-fine (suc f) k = first-on numberOf fine _ refl ∙ along-fine f (k + 1)

@@ -1,29 +1,17 @@
--- No position passed by is refused, so that the first that is decides, and the end too.
-use Rattle.laws.specs.Kit.{_-_, _∙_, _≡_, _≤_, arith}
-use Rattle.laws.specs.Order.{along}
-use Rattle.laws.specs.Order.Laws.{along-end, along-go, along-hit, along-start}
-use Rattle.paper.specs.Rules.{fine, numberOf, overPositions, quantityVerdict}
+-- Where all quantities are allowed no position is refused; else the first that is decides.
+use Rattle.laws.specs.Kit.{sym, _∙_, arith}
+use Rattle.judge.proofs.Laws.Quantities.{all-allowed}
 use Rattle.judge.proofs.positions.quantity_verdict.Statement.{statement}
 use Rattle.judge.proofs.positions.quantity_verdict.Tie as tie
 
-abbrev Inv-loop : tie.InvT-loop
-Inv-loop n s y k₀ k = (k ≤ 100) × (along numberOf fine (quantityVerdict n s y) 100 0 ≡ along numberOf fine (quantityVerdict n s y) (100 - k) k)
-
-abbrev μ-loop : tie.MeasureT-loop
-μ-loop n s y k₀ k = 100 - k
-
 pub quantity-verdict-spec : {M : Type 1} → statement M
-unfolding overPositions
 quantity-verdict-spec =
     tie.close
     (tie.spec
-    Inv-loop
-    μ-loop
-    (λ c. (omega arith, along-start _ _ _ _))
-    (λ c κs. omega arith)
-    (λ c. let t = c .before .before .before in along-hit _ _ _ _ _ _ (t .before .loop .inv .1) (t .loop-test .taken) (c .before .before .quantity-at .ensures) (c .if1 .taken))
-    (λ c. omega arith)
-    (λ c. omega arith)
-    (λ c. let t = c .before .before .before in (omega arith, along-go _ _ _ _ _ _ (t .before .loop .inv .1) (t .loop-test .taken) (c .before .before .quantity-at .ensures) (c .if1 .left)))
     (λ c κs. tt)
-    (λ c. c .fine .ensures ∙ along-end _ _ _ _ _ (c .before .before .loop .inv .1) (c .before .loop-test .left)))
+    (λ c. c .first-refused .ensures)
+    (λ c κs. omega arith)
+    (λ c κs. tt)
+    (λ c. c .fine .ensures ∙ all-allowed _ _ _ (sym (c .before .before .quantities-allowed .ensures) ∙ c .before .if2 .taken))
+    (λ c κs. tt)
+    (λ c. c .first-refused2 .ensures))
