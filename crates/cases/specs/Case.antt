@@ -52,9 +52,9 @@ toldBy v = v .number ∷ v .series ∷ v .position .0 ∷ v .code ∷ []
 abbrev pub submission : (book message : Bytes) → List ℕ
 submission book message = once (λ m. toldBy (verdict book m)) message
 
--- number, state, first, partner
+-- number, state, code, first, partner
 abbrev pub toldByMark : MarkAnswer → List ℕ
-toldByMark a = a .number ∷ a .state ∷ a .first .0 ∷ a .partner .0 ∷ []
+toldByMark a = a .number ∷ a .state ∷ a .code ∷ a .first .0 ∷ a .partner .0 ∷ []
 
 abbrev pub markOf : (book sender id : Bytes) → List ℕ
 markOf book sender id = toldByMark (markAnswer book sender id)

@@ -14,7 +14,7 @@ use Rattle.paper.specs.Book.{dayBlock, slots, isFree, used, freeSlots, isSender
 use Rattle.paper.specs.Sound.{dayFields, daySound, usedFirst, countSound, senderFields, senderDayAndNets, senderSound, partiesOf, ownerSound, partnerSound, seriesFields, seriesCodes, seriesValues, seriesSound, usedSound, sameSender, sameSeries, sound}
 use Rattle.paper.specs.Message.{headOf, seriesOf, headRight, seriesRight, messageRight, rule2, seriesNumbered}
 use Rattle.paper.specs.Rules.{_then_, broken, overPositions, rule1, rule3, rule4, rule5, idOrVersionBroken, rule6, withOtherPair, withOtherId, rule7, rule8, rule9, rule10, rule11, rule12, rule13, isOpen, closed, rule14, seriesVersion, rule15, absent, rule16, isNew, newBlocks, rule17, storedOf, headVerdict, quantityVerdict, closedVerdict, formVerdict, valuesVerdict, seriesVerdict, eachSeries, lastVerdict, judge, verdict}
-use Rattle.paper.specs.Codes.{table, codeIn, reasonCode, statusCode, replyTo}
+use Rattle.paper.specs.Codes.{table, codeIn, reasonCode, statusCode, replyKind, replyTo}
 use Rattle.paper.specs.Marks.{isCounterpart, counterpart, counterpartSlot, differenceFrom, firstDifference, markOf, markIn, stateCode}
 use Rattle.paper.specs.Nets.{bought, sold, netOf, netsTo, netsOf}
 use Rattle.paper.specs.Acceptance.{slotFor, senderKept, replaced, renewed, fresh, placed, touched, remarked, usedAfter, accepted, submitted}
@@ -48,7 +48,7 @@ soundBook = 0
 
 -- "Submission: order of checks"
 unfoldable pub orderOfChecks : ℕ
-unfolding headOf seriesOf headRight seriesRight messageRight rule2 seriesNumbered _then_ broken overPositions rule1 rule3 rule4 rule5 idOrVersionBroken rule6 idIs pairIs withOtherPair withOtherId rule7 rule8 rule9 rule10 rule11 rule12 rule13 isOpen closed rule14 seriesVersion rule15 absent rule16 isNew newBlocks rule17 storedOf headVerdict quantityVerdict closedVerdict formVerdict valuesVerdict seriesVerdict eachSeries lastVerdict judge verdict table codeIn reasonCode statusCode replyTo
+unfolding headOf seriesOf headRight seriesRight messageRight rule2 seriesNumbered _then_ broken overPositions rule1 rule3 rule4 rule5 idOrVersionBroken rule6 idIs pairIs withOtherPair withOtherId rule7 rule8 rule9 rule10 rule11 rule12 rule13 isOpen closed rule14 seriesVersion rule15 absent rule16 isNew newBlocks rule17 storedOf headVerdict quantityVerdict closedVerdict formVerdict valuesVerdict seriesVerdict eachSeries lastVerdict judge verdict table codeIn reasonCode statusCode replyKind replyTo
 orderOfChecks = 0
 
 -- "Marks and finals", and what an acceptance writes

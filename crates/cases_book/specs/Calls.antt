@@ -3,7 +3,7 @@ use Rattle.laws.specs.Base.{_≡_, refl, List, [], _∷_, _++_, map, ℕ, take,
 use Rattle.paper.specs.declared.ClockAnswer.{ClockAnswer}
 use Rattle.paper.specs.Layout.{Bytes}
 use Rattle.paper.specs.Message.{seriesNumbered}
-use Rattle.paper.specs.Codes.{reasonCode, statusCode, Reply, acknowledgement, uninterpretableMessage, deskNotice, replyTo}
+use Rattle.paper.specs.Codes.{reasonCode, statusCode, acknowledgement, uninterpretableMessage, deskNotice, replyTo}
 use Rattle.paper.specs.Marks.{stateCode}
 use Rattle.paper.specs.Opening.{openNumber, opened}
 use Rattle.paper.specs.Clock.{clockAnswer, clockMoved}
@@ -47,10 +47,9 @@ texts = refl
 
 -- ---- codes and replies
 
-abbrev pub replyNumber : Reply → ℕ
-replyNumber acknowledgement = 0
-replyNumber uninterpretableMessage = 1
-replyNumber deskNotice = 2
+-- kind, status, code
+abbrev pub replied : ℕ → List ℕ
+replied number = replyTo number .kind ∷ replyTo number .status ∷ replyTo number .code ∷ []
 
 -- the rules' codes stand in Refusals
 unfoldable pub ofCodes : List Case
@@ -58,7 +57,12 @@ ofCodes =
     map reasonCode (30 ∷ 31 ∷ []) gives (42 ∷ 46 ∷ [])
     ∷ map reasonCode (18 ∷ 20 ∷ 21 ∷ 22 ∷ 23 ∷ 24 ∷ 25 ∷ 26 ∷ 32 ∷ []) gives replicate 9 0
     ∷ map statusCode (0 ∷ 1 ∷ 2 ∷ 16 ∷ 17 ∷ []) gives (1 ∷ 0 ∷ 0 ∷ 2 ∷ 0 ∷ [])
-    ∷ map (λ number. replyNumber (replyTo number)) (0 ∷ 1 ∷ 2 ∷ 3 ∷ 16 ∷ 17 ∷ []) gives (0 ∷ 2 ∷ 1 ∷ 0 ∷ 0 ∷ 2 ∷ [])
+    ∷ replied 0 gives (acknowledgement ∷ 1 ∷ 1 ∷ [])
+    ∷ replied 1 gives (deskNotice ∷ 0 ∷ 0 ∷ [])
+    ∷ replied 2 gives (uninterpretableMessage ∷ 0 ∷ 0 ∷ [])
+    ∷ replied 3 gives (acknowledgement ∷ 2 ∷ 53 ∷ [])
+    ∷ replied 16 gives (acknowledgement ∷ 2 ∷ 52 ∷ [])
+    ∷ replied 17 gives (deskNotice ∷ 0 ∷ 0 ∷ [])
     ∷ map stateCode (1 ∷ 2 ∷ 3 ∷ []) gives (28 ∷ 0 ∷ 9 ∷ [])
     ∷ []
 
@@ -123,11 +127,11 @@ clocks = refl
 -- the seller alone has filed; positions 1 to 4 are closed
 unfoldable pub ofSeller : Bytes → List Case
 ofSeller book =
-    markOf book seller (id "TS0001") gives (0 ∷ 1 ∷ 0 ∷ 0 ∷ [])
-    ∷ markOf book seller (id "FPL01") gives (23 ∷ 0 ∷ 0 ∷ 0 ∷ [])
-    ∷ markOf book stranger (id "TS0001") gives (23 ∷ 0 ∷ 0 ∷ 0 ∷ [])
-    ∷ markOf book (take 15 seller) (id "ts0001") gives (23 ∷ 0 ∷ 0 ∷ 0 ∷ [])
-    ∷ markOf (replicate 1024 0) seller (id "TS0001") gives (1 ∷ 0 ∷ 0 ∷ 0 ∷ [])
+    markOf book seller (id "TS0001") gives (0 ∷ 1 ∷ 28 ∷ 0 ∷ 0 ∷ [])
+    ∷ markOf book seller (id "FPL01") gives (23 ∷ 0 ∷ 0 ∷ 0 ∷ 0 ∷ [])
+    ∷ markOf book stranger (id "TS0001") gives (23 ∷ 0 ∷ 0 ∷ 0 ∷ 0 ∷ [])
+    ∷ markOf book (take 15 seller) (id "ts0001") gives (23 ∷ 0 ∷ 0 ∷ 0 ∷ 0 ∷ [])
+    ∷ markOf (replicate 1024 0) seller (id "TS0001") gives (1 ∷ 0 ∷ 0 ∷ 0 ∷ 0 ∷ [])
     ∷ acceptedBlock book seller (id "TS0001") gives drop 1024 book
     ∷ acceptedBlock book buyer (id "TS0001") gives []
     ∷ finalValue book seller buyer 4 gives kilowatts 45000

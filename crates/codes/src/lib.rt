@@ -1,7 +1,9 @@
-// The reason code of each number that a call can answer.
+// The reason code of each number that a call can answer, the reply to a submission, and the code of a mark's state.
 ghost use mathlib.Core.Path.{_≡_};
 ghost use Rattle.laws.specs.Table.{Table};
-ghost use Rattle.paper.specs.Codes.{reasonCode};
+ghost use Rattle.paper.specs.Codes.{reasonCode, statusCode, replyKind, replyTo};
+ghost use Rattle.paper.specs.Marks.{stateCode};
+use paper::Reply;
 
 // The one fixed table: at a number its code, 53 for A53, 0 where it has none. 0 is the acceptance; 1, 2, 17 and the numbers of the
 // other calls have none; 30 and 31 are the refusals of quantity text.
@@ -58,4 +60,56 @@ pub fn reason_code(number: u32) -> u8
 {
     let codes = CODES;
     code_in(&codes, number)
+}
+
+// A01 beside an acceptance, A02 beside a refusal with a code.
+fn status_code(number: u32, code: u8) -> u8
+    requires { ⌜ code ≡ reasonCode number ⌝ }
+    ensures { λ r. ⌜ r ≡ statusCode number ⌝ }
+{
+    if number == 0 {
+        return 1;
+    }
+    if code == 0 {
+        return 0;
+    }
+    2
+}
+
+fn reply_kind(number: u32, code: u8) -> u8
+    requires { ⌜ code ≡ reasonCode number ⌝ }
+    ensures { λ r. ⌜ r ≡ replyKind number ⌝ }
+{
+    if (number == 1) | (number == 17) {
+        return 2;
+    }
+    if code == 0 {
+        return 1;
+    }
+    0
+}
+
+// How the sender of a message is answered.
+pub fn reply(number: u32) -> Reply
+    ensures { λ r. ⌜ r ≡ replyTo number ⌝ }
+{
+    let code = reason_code(number);
+    Reply {
+        kind: reply_kind(number, code),
+        status: status_code(number, code),
+        code: code,
+    }
+}
+
+// A28 for a series that stands alone, A09 for one whose counterpart differs.
+pub fn state_code(state: u8) -> u8
+    ensures { λ r. ⌜ r ≡ stateCode state ⌝ }
+{
+    if state == 1 {
+        return 28;
+    }
+    if state == 3 {
+        return 9;
+    }
+    0
 }

@@ -3,6 +3,7 @@ use mathlib.Core.Bool.{cond}
 use mathlib.Core.List.{List, [], _∷_}
 use Prim.Native.Nat.{ℕ}
 use Rattle.laws.specs.Tests.{_or_, is}
+use Rattle.paper.specs.declared.Reply.{Reply}
 
 pub record Row : Type 0 where
   pub number : ℕ
@@ -44,12 +45,20 @@ reasonCode number = codeIn table number
 unfoldable pub statusCode : (number : ℕ) → ℕ
 statusCode number = cond (is number 0) 1 (cond (is (reasonCode number) 0) 0 2)
 
--- how a submission is answered: an acknowledgement, 000's uninterpretable-message mail, or a desk notice
-pub data Reply : Type 0 where
-  acknowledgement : Reply
-  uninterpretableMessage : Reply
-  deskNotice : Reply
+-- the kinds of reply
+abbrev pub acknowledgement : ℕ
+acknowledgement = 0
+
+abbrev pub uninterpretableMessage : ℕ
+uninterpretableMessage = 1
+
+abbrev pub deskNotice : ℕ
+deskNotice = 2
 
 -- "where there is no code the reply is 000's uninterpretable-message mail, or for 1 and 17 a desk notice"
+unfoldable pub replyKind : (number : ℕ) → ℕ
+replyKind number = cond (is number 1 or is number 17) deskNotice (cond (is (reasonCode number) 0) uninterpretableMessage acknowledgement)
+
+-- how a submission with this answer is replied to
 unfoldable pub replyTo : (number : ℕ) → Reply
-replyTo number = cond (is number 1 or is number 17) deskNotice (cond (is number 2) uninterpretableMessage acknowledgement)
+replyTo number = record { kind = replyKind number; status = statusCode number; code = reasonCode number }

@@ -1,12 +1,12 @@
--- Demand 3: the plain matching rule. It reads the list of accepted messages, oldest first, and nothing of the book; n and the slot that a mark
--- names are told it.
+-- Demand 3: the plain matching rule. It reads the list of accepted messages, oldest first, and nothing of the book; the slot that a mark names is
+-- told it.
 use mathlib.Core.Bool.{cond}
 use mathlib.Core.Option.{Option, none, some, Option·map, Option·getD}
 use mathlib.Core.List.{List, [], _∷_}
 use Prim.Native.Nat.{ℕ}
 use lib.ListN.{take, drop}
 use Rattle.laws.specs.Lists.{same, find}
-use Rattle.paper.specs.Layout.{Bytes, Block, sender, quantities}
+use Rattle.paper.specs.Layout.{Bytes, Block, nOf, sender, quantities}
 use Rattle.paper.specs.Message.{headOf, seriesOf}
 use Rattle.paper.specs.Book.{pairIs}
 use Rattle.paper.specs.Marks.{markOf}
@@ -26,6 +26,11 @@ unfoldable pub seriesOfLatest : (found : Option Bytes) → List Block
 seriesOfLatest none = []
 seriesOfLatest (some message) = seriesOf message
 
+-- n as its first block has it; 0 where there is none
+unfoldable pub nOfLatest : (found : Option Bytes) → ℕ
+nOfLatest none = 0
+nOfLatest (some message) = nOf (headOf message)
+
 -- the quantities that sender e last sent under a pair
 unfoldable pub plainHeld : (messages : List Bytes) (e : Bytes) (parties : Bytes) → Option Bytes
 plainHeld messages e parties = Option·map quantities (find (pairIs parties) (seriesOfLatest (latest e messages)))
@@ -35,9 +40,9 @@ unfoldable pub otherParty : (e : Bytes) (parties : Bytes) → Bytes
 otherParty e parties = cond (same (take 16 parties) e) (drop 16 parties) (take 16 parties)
 
 -- the mark of sender e's series with a pair, its counterpart standing in a slot
-unfoldable pub plainMark : (n : ℕ) (messages : List Bytes) (e : Bytes) (parties : Bytes) (slot : ℕ) → Bytes
-plainMark n messages e parties slot =
-    markOf n (Option·getD (plainHeld messages e parties) []) (plainHeld messages (otherParty e parties) parties) slot
+unfoldable pub plainMark : (messages : List Bytes) (e : Bytes) (parties : Bytes) (slot : ℕ) → Bytes
+plainMark messages e parties slot =
+    markOf (nOfLatest (latest e messages)) (Option·getD (plainHeld messages e parties) []) (plainHeld messages (otherParty e parties) parties) slot
 
 -- the nets of sender e
 unfoldable pub plainNets : (messages : List Bytes) (e : Bytes) → Option Bytes

@@ -9,6 +9,7 @@ use Rattle.paper.specs.declared.MarkAnswer.{MarkAnswer}
 use Rattle.paper.specs.Layout.{Bytes, Block, state, first, partner}
 use Rattle.paper.specs.Book.{used, idIs, slotOf, isSeriesOf}
 use Rattle.paper.specs.Sound.{sound}
+use Rattle.paper.specs.Marks.{stateCode}
 
 -- b is the stored series of sender e with an id
 unfoldable pub isStoredAs : (us : List Block) (e : Bytes) (id : Bytes) (b : Block) → Bool
@@ -17,8 +18,9 @@ isStoredAs us e id b = isSeriesOf (slotOf us e) b and idIs id b
 unfoldable pub storedAs : (us : List Block) (e : Bytes) (id : Bytes) → Option Block
 storedAs us e id = find (isStoredAs us e id) us
 
+-- with "A28" or "A09"
 abbrev pub markAnswerOf : (number : ℕ) (state : ℕ) (first : ℕ) (partner : ℕ) → MarkAnswer
-markAnswerOf number state first partner = record { number = number; state = state; first = record { 0 = first }; partner = record { 0 = partner } }
+markAnswerOf number state first partner = record { number = number; state = state; code = stateCode state; first = record { 0 = first }; partner = record { 0 = partner } }
 
 -- "23 unknown"
 unfoldable pub markFound : (found : Option Block) → MarkAnswer

@@ -37,10 +37,21 @@ pub struct ClockAnswer {
     pub state: DayState,
 }
 
+// How a submission is answered: by an acknowledgement (kind 0), which has a status (1 for A01, 2 for A02) and a reason code, by the
+// uninterpretable-message mail (1) or by a desk notice (2), which have neither.
+#[repr(C)]
+pub struct Reply {
+    pub kind: u8,
+    pub status: u8,
+    pub code: u8,
+}
+
+// The kept mark of a series, with the code of its state (28 for A28, 9 for A09, 0 where it has none).
 #[repr(C)]
 pub struct MarkAnswer {
     pub number: u32,
     pub state: u8,
+    pub code: u8,
     pub first: Position,
     pub partner: Slot,
 }

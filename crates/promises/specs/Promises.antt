@@ -1,7 +1,7 @@
 -- THE PAGE OF PROMISES. Each promise is stated in the words of `paper`, with a few more that stand in Words; each proof is one line that cites the file that carries the weight.
 use Rattle.laws.specs.Base.{_≡_, true, false, some, Option·map, List, ℕ, _+_, _*_, length, drop}
 use Rattle.laws.specs.Lists.{find, nth}
-use Rattle.paper.specs.Layout.{Bytes, Block, nOf, sender, nets, sendersSlot, pair, mark, partner, quantities}
+use Rattle.paper.specs.Layout.{Bytes, Block, sender, nets, sendersSlot, pair, mark, partner, quantities}
 use Rattle.paper.specs.Book.{dayBlock, used, freeSlots, isSeries, isSenderBlockOf, slotOf, isSeriesOf, isSeriesOfPair, ownSender, ownSeries}
 use Rattle.paper.specs.Sound.{sound}
 use Rattle.paper.specs.Message.{headOf}
@@ -74,7 +74,7 @@ module _ (buffer : Bytes) (o : Opening) (accepted-opening : openNumber buffer o 
 
   -- the mark kept beside it is the plain rule's, the slot in it apart
   pub marks-are-the-plain-rules : (slot : ℕ) (x : Block) → nth (used book) slot ≡ some x → isSeries x ≡ true → (e : Bytes) → slotOf (used book) e ≡ sendersSlot x
-      → mark x ≡ plainMark (nOf (dayBlock book)) messages e (pair x) (partner x)
+      → mark x ≡ plainMark messages e (pair x) (partner x)
   marks-are-the-plain-rules = mark-plain _ _ holds
 
   -- that slot holds the series which the plain rule found: the other party's, with the same pair and with the quantities q that it last sent

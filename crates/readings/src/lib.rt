@@ -10,6 +10,7 @@ ghost use Rattle.paper.specs.Finals.{final};
 
 pub mod finals;
 
+use codes::state_code;
 use field::part_of;
 use field::same;
 use finals::final_in;
@@ -61,6 +62,7 @@ fn mark_refused(number: u32) -> MarkAnswer
     MarkAnswer {
         number: number,
         state: 0,
+        code: 0,
         first: Position(0),
         partner: Slot(0),
     }
@@ -69,9 +71,11 @@ fn mark_refused(number: u32) -> MarkAnswer
 fn mark_of(x: &[u8]) -> MarkAnswer
     ensures { λ r. ⌜ r ≡ markAnswerOf 0 (state (now (x .entry))) (first (now (x .entry))) (partner (now (x .entry))) ⌝ }
 {
+    let state = state(x);
     MarkAnswer {
         number: 0,
-        state: state(x),
+        state: state,
+        code: state_code(state),
         first: first(x),
         partner: partner(x),
     }

@@ -18,8 +18,7 @@ use Rattle.paper.specs.PlainRule.{orElse, latest, plainMark, plainNets}
 use Rattle.paper.specs.Calls.{submission, step, run}
 use Rattle.facts.specs.Layout.{mark-state}
 use Rattle.facts.specs.Book.{kind-series}
-use Rattle.promises.specs.Laws.Refusals.{submission-accepted}
-use Rattle.promises.specs.Promises.{nets-are-the-plain-rules, marks-are-the-plain-rules, day-block-stays}
+use Rattle.promises.specs.Promises.{nets-are-the-plain-rules, marks-are-the-plain-rules}
 use Rattle.cases.specs.Opened.{paper}
 use Rattle.cases.specs.Case.{once}
 use Rattle.cases.specs.Examples.{seller, head, sale, buyback, steady, parameters, bookOf, examples}
@@ -151,14 +150,12 @@ abbrev pub MarksPlain : (Bytes → Bytes → Bytes) → Type 0
 MarksPlain after = (buffer : Bytes) (o : Opening) (m : Bytes) → openNumber buffer o ≡ 0 → numberOf (verdict (opened buffer o) m) ≡ 0
     → (slot : ℕ) (x : Block) → nth (used (after (opened buffer o) m)) slot ≡ some x → isSeries x ≡ true → (e : Bytes) → slotOf
     (used (after (opened buffer o) m)) e ≡ sendersSlot x
-    → mark x ≡ plainMark (nOf (dayBlock (opened buffer o))) (m ∷ []) e (pair x) (partner x)
+    → mark x ≡ plainMark (m ∷ []) e (pair x) (partner x)
 
 pub desk-marks-plain : MarksPlain submitted
 unfolding run step
 desk-marks-plain buffer o m h q slot x there s e i =
-    let d : dayBlock (submitted (opened buffer o) m) ≡ dayBlock (opened buffer o) = ap dayBlock (submission-accepted (opened buffer o) m q) ∙ day-block-stays
-    (opened buffer o) m q in
-    rw (is-equal _ _ q, d) at (marks-are-the-plain-rules buffer o h (submission m ∷ []) slot x there s e i)
+    rw (is-equal _ _ q) at (marks-are-the-plain-rules buffer o h (submission m ∷ []) slot x there s e i)
 
 -- slot 3 has a series of the seller in slot 1, with no mark
 series-copied : computed (λ b m. Option·map (λ x. kind x ∷ sendersSlot x ∷ state x ∷ []) (nth (used (firstOnly b m)) 3)) ≡ some (2 ∷ 1 ∷ 0 ∷ [])
@@ -179,9 +176,9 @@ mark-of-state n a (some b) slot e = by (is (firstDifference n a b) 0) e
     by true q = omega arith
     by false q = omega arith
 
-plain-mark-state : (n : ℕ) (ms : List Bytes) (e p : Bytes) (slot : ℕ) (x : Block) → mark x ≡ plainMark n ms e p slot → state x ≡ 0 → ⊥
+plain-mark-state : (ms : List Bytes) (e p : Bytes) (slot : ℕ) (x : Block) → mark x ≡ plainMark ms e p slot → state x ≡ 0 → ⊥
 unfolding plainMark
-plain-mark-state n ms e p slot x m s = mark-of-state n _ _ slot (sym (mark-state x ∙ number-1 0 (mark x) ∙ ap (λ w. getD w 0 0) m) ∙ s)
+plain-mark-state ms e p slot x m s = mark-of-state _ _ _ slot (sym (mark-state x ∙ number-1 0 (mark x) ∙ ap (λ w. getD w 0 0) m) ∙ s)
 
 pub first-series-only-marks : MarksPlain firstOnly → ⊥
 first-series-only-marks p = by (nth (used (firstOnly book message)) 3) refl
@@ -202,5 +199,5 @@ first-series-only-marks p = by (nth (used (firstOnly book message)) 3) refl
         let i : sendersSlot x ≡ 1 = cc in
         let s : state x ≡ 0 = cc in
         let a : numberOf (verdict (opened (replicate 2048 7) (parameters 45)) message) ≡ 0 = rw book-opened at answer-0 in
-        plain-mark-state _ _ seller (pair x) (partner x) x
+        plain-mark-state _ seller (pair x) (partner x) x
         (p (replicate 2048 7) (parameters 45) message opening-allowed a 3 x (rw book-opened at f) (kind-series x k) seller (rw book-opened at in-slot ∙ sym i)) s

@@ -2,30 +2,34 @@
 -- under the pair, and the slot in it is the counterpart's.
 use Rattle.laws.specs.Base.{_≡_, refl, sym, ap, ap₂, _∙_, Bool, true, false, true≢false, Option, none, some, Option·getD, Option·map, List, [], _∷_, ℕ, zero, suc, _<_, arith}
 use Rattle.laws.specs.Tests.{_or_, neg}
-use Rattle.laws.specs.Tests.Laws.{split, clash, and-left, and-right, and-both, or-yes-left, or-yes-right, neg-yes, neg-true}
-use Rattle.laws.specs.Lists.{same, find, place, nth, every, apart, All}
+use Rattle.laws.specs.Tests.Laws.{split, clash, and-left, and-right, and-both, or-yes-left, or-yes-right, neg-yes, neg-true, is-yes}
+use Rattle.laws.specs.Lists.{same, find, has, place, nth, every, apart, All}
 use Rattle.laws.specs.Lists.Same.{same-equal}
-use Rattle.laws.specs.Lists.Each.{all-imply, all-nth, every-all, all-every}
-use Rattle.laws.specs.Lists.Search.{find-passes, find-agree, place-length, nth-place, place-agree}
+use Rattle.laws.specs.Lists.Each.{all-imply, all-nth, all-find, every-all, all-every}
+use Rattle.laws.specs.Lists.Search.{has-yes, find-passes, find-agree, place-length, nth-place, place-agree}
 use Rattle.laws.specs.Bytes.{number}
+use Rattle.laws.specs.Bytes.Laws.{number-part}
 use Rattle.paper.specs.Layout.{Bytes, Block, nOf, sender, nets, sendersSlot, pair, mark, partner, quantities}
-use Rattle.paper.specs.Book.{dayBlock, used, isSender, isSeries, slotOf, ownSeries, isSeriesOfPair}
-use Rattle.paper.specs.Sound.{sameSeries}
+use Rattle.paper.specs.Book.{dayBlock, used, isSender, isSeries, isSenderBlockOf, slotOf, ownSeries, isSeriesOfPair}
+use Rattle.paper.specs.Sound.{senderFields, senderSound, usedSound, sameSeries}
+use Rattle.paper.specs.Message.{headOf}
 use Rattle.paper.specs.Marks.{isCounterpart, counterpart, counterpartSlot, markOf, markIn}
 use Rattle.paper.specs.Nets.{netsOf}
 use Rattle.paper.specs.Finals.{held}
 use Rattle.paper.specs.PlainRun.{markTrue, netsTrue, plainRun}
-use Rattle.paper.specs.PlainRule.{plainHeld, otherParty, plainMark}
+use Rattle.paper.specs.PlainRule.{latest, nOfLatest, plainHeld, otherParty, plainMark}
 use Rattle.facts.specs.Layout.{mark-partner}
-use Rattle.facts.specs.Sound.{is-sound, used-few}
+use Rattle.facts.specs.Sound.{is-sound, used-few, used-sender}
 use Rattle.facts.specs.Pairs.{pair-is-equal, of-pair-yes, of-pair-series, of-pair-slot, of-pair-pair, viewFound, viewHeld, held-viewed}
 use Rattle.promises.specs.Laws.Marks.{MarksTrue}
+use Rattle.facts.specs.Book.{sender-block-sender}
 use Rattle.facts.specs.Senders.{slot-of-one, Owner, Owned, owned}
 use Rattle.promises.specs.Laws.SoundApart.{same-series-yes, same-pair-yes}
 use Rattle.promises.specs.Laws.SoundSeries.{partner-in}
 use Rattle.promises.specs.Laws.NetsTrue.{NetsTrue}
 use Rattle.promises.specs.Laws.Invariant.{Invariant, held-plain}
 use Rattle.promises.specs.Laws.Sides.{sides}
+use Rattle.promises.specs.Words.{headContent, plainHeadContent}
 
 -- ---- a series is the one that its sender has under its pair
 
@@ -52,6 +56,17 @@ unfolding markOf
 mark-by-partner n a none slot x h e = e
 mark-by-partner n a (some q) slot x h e = rw (slot-in-mark n a q slot x h e) e
 
+-- ---- n in the first block of a message, nets and check apart
+
+n-in-head : (s : Block) → number 1 1 (headContent s) ≡ nOf s
+unfolding headContent nOf
+n-in-head s = number-part 1 0 108 1 s (omega arith)
+
+n-of-head : (s : Block) (found : Option Bytes) → some (headContent s) ≡ Option·map (λ m. headContent (headOf m)) found → nOfLatest found ≡ nOf s
+unfolding nOfLatest
+n-of-head s none e = let z : true ≡ false = cc in absurd (true≢false z)
+n-of-head s (some m) e = let h : headContent s ≡ headContent (headOf m) = cc in sym (n-in-head (headOf m)) ∙ ap (number 1 1) (sym h) ∙ n-in-head s
+
 quantities-found-yes : (p : Block → Bool) (l : List Block) (q : Bytes) → viewFound quantities p l ≡ some q → (y : Block) × (find p l ≡ some y) × (quantities y ≡ q)
 unfolding viewFound
 quantities-found-yes p l q e = by (find p l) refl
@@ -76,6 +91,16 @@ module _ (book : Bytes) (ms : List Bytes) (v : Invariant book ms) where
 
   pub sender-named : (slot : ℕ) (x : Block) → nth (used book) slot ≡ some x → isSeries x ≡ true → (e : Bytes) × (slotOf (used book) e ≡ sendersSlot x)
   sender-named slot x h s = let w = owner-named slot x h s in (w .eic, w .slot)
+
+  -- n of a stored sender's latest message is the day block's: its sender block has it, by soundness, and is that message's first block but for nets and check
+  n-latest : (e : Bytes) → has (isSenderBlockOf e) us ≡ true → nOfLatest (latest e ms) ≡ nOf (dayBlock book)
+  unfolding senderSound senderFields plainHeadContent
+  n-latest e t =
+      let q = has-yes (isSenderBlockOf e) us t in
+      let a = used-sender _ us (q .0) (all-find (λ x. usedSound (dayBlock book) us x ≡ true) _ us (q .0) (v .good .each) (q .1))
+      (sender-block-sender e (q .0) (find-passes _ us (q .0) (q .1))) in
+      n-of-head (q .0) (latest e ms) (sym (ap (Option·map headContent) (q .1)) ∙ v .heads e)
+      ∙ is-yes _ _ (and-left _ _ (and-left _ _ (and-left _ _ (and-left _ _ (and-left _ _ (and-left _ _ a))))))
 
   -- a series x in a slot, and its sender e
   module _ (slot : ℕ) (x : Block) (h : nth (used book) slot ≡ some x) (s : isSeries x ≡ true) (e : Bytes) (i : slotOf (used book) e ≡ sendersSlot x) where
@@ -102,11 +127,12 @@ module _ (book : Bytes) (ms : List Bytes) (v : Invariant book ms) where
         sym (held-plain book ms v e (pair x)) ∙ ap (λ o. Option·map quantities (find (isSeriesOfPair o (pair x)) us)) i
         ∙ ap (Option·map quantities) (found-itself us (v .good .series) slot x h s)
 
-    pub mark-plain : mark x ≡ plainMark (nOf (dayBlock book)) ms e (pair x) (partner x)
+    pub mark-plain : mark x ≡ plainMark ms e (pair x) (partner x)
     unfolding plainMark
     mark-plain =
         mark-by-partner n (quantities x) (plainHeld ms other (pair x)) _ x (few _) due
-        ∙ ap (λ o. markOf n (Option·getD o []) (plainHeld ms other (pair x)) (partner x)) (sym own-held)
+        ∙ ap₂ (λ o m. markOf m (Option·getD o []) (plainHeld ms other (pair x)) (partner x)) (sym own-held)
+        (sym (n-latest e (rw eic-is (owner-named slot x h s .known))))
 
     pub partner-plain : (q : Bytes) → plainHeld ms (otherParty e (pair x)) (pair x) ≡ some q
         → (y : Block) × (nth (used book) (partner x) ≡ some y) × (slotOf (used book) (otherParty e (pair x)) ≡ sendersSlot y) × (pair y ≡ pair x) ×
