@@ -17,9 +17,11 @@ pub mod Refusals
 pub mod Soundness
 -- demand 3
 pub mod NetsTrue
+pub mod ById
 pub mod Invariant
 pub mod Sides
 pub mod PlainMarks
+pub mod Readings
 pub mod Finals
 -- isolation, determinacy
 pub mod Isolation

@@ -80,7 +80,8 @@ module _ (buffer : Bytes) (o : Opening) (accepted-opening : openNumber buffer o 
   -- that slot holds the series which the plain rule found: the other party's, with the same pair and with the quantities q that it last sent
   pub partners-are-the-plain-rules : (slot : ℕ) (x : Block) → nth (used book) slot ≡ some x → isSeries x ≡ true → (e : Bytes) → slotOf (used book) e ≡ sendersSlot x
       → (q : Bytes) → plainHeld messages (otherParty e (pair x)) (pair x) ≡ some q
-      → (y : Block) × (nth (used book) (partner x) ≡ some y) × (slotOf (used book) (otherParty e (pair x)) ≡ sendersSlot y) × (pair y ≡ pair x) × (quantities y ≡ q)
+      → (y : Block) × (nth (used book) (partner x) ≡ some y) × (isSeries y ≡ true) × (slotOf (used book) (otherParty e (pair x)) ≡ sendersSlot y)
+      × (pair y ≡ pair x) × (quantities y ≡ q)
   partners-are-the-plain-rules = partner-plain _ _ holds
 
   -- the nets kept for each sender, at all positions, are the plain rule's

@@ -1,16 +1,20 @@
 -- The words of the promises that are not the paper's: what is kept of a block, a desk just opened, the desk after some calls, calls that do not open the book
--- again, and a promise that determines what it promises.
-use Rattle.laws.specs.Base.{_≡_, Bool, Option, Option·map, List, [], _∷_, _++_, ℕ, _+_, _≤_}
-use Rattle.laws.specs.Tests.{_and_}
+-- again, what keeps finals, the readings in terms of the accepted messages, and a promise that determines what it promises.
+use Rattle.laws.specs.Base.{_≡_, Bool, true, cond, Option, none, some, Option·map, List, [], _∷_, _++_, ℕ, _+_, _-_, _≤_, _<_}
+use Rattle.laws.specs.Tests.{_and_, _or_, neg, is, less}
 use Rattle.laws.specs.Lists.{find, has}
-use Rattle.laws.specs.Bytes.{part}
+use Rattle.laws.specs.Bytes.{part, number}
+use Rattle.paper.specs.declared.MarkAnswer.{MarkAnswer}
 use Rattle.paper.specs.declared.FinalAnswer.{FinalAnswer}
-use Rattle.paper.specs.Layout.{Bytes, Block, pair}
-use Rattle.paper.specs.Book.{pairIs, slotOf, isSeriesOf}
+use Rattle.paper.specs.Layout.{Bytes, Block, nOf, lead, clockPlus10080, pair}
+use Rattle.paper.specs.Book.{dayBlock, used, idIs, pairIs, slotOf, isSeriesOf}
 use Rattle.paper.specs.Message.{headOf}
+use Rattle.paper.specs.Rules.{numberOf, closed, verdict}
 use Rattle.paper.specs.Marks.{isCounterpart}
+use Rattle.paper.specs.Finals.{finalOf, held, isHeld, heldAt, finalRefused}
+use Rattle.paper.specs.Readings.{markAnswerOf}
 use Rattle.paper.specs.Opening.{Opening, openNumber, opened}
-use Rattle.paper.specs.PlainRule.{latest, seriesOfLatest}
+use Rattle.paper.specs.PlainRule.{latest, seriesOfLatest, plainHeld, plainMark}
 use Rattle.paper.specs.Calls.{Call, Desk, step, run, clockMove, submission, reading, opening}
 
 -- the bytes of a series but sender's slot, mark and check
@@ -46,8 +50,21 @@ abbrev pub Unopened : Desk → List Call → Type 0
 Unopened k [] = Unit {0}
 Unopened k (c ∷ cs) = NotOpened k c × Unopened (step k c) cs
 
+-- the messages accepted since the last opening, oldest first, after the submission of one more: it is among them exactly where it is answered 0
+unfoldable pub messagesAfter : (book : Bytes) (message : Bytes) (messages : List Bytes) → List Bytes
+messagesAfter book message messages = cond (is (numberOf (verdict book message)) 0) (messages ++ message ∷ []) messages
+
 abbrev pub finalGiven : ℕ → FinalAnswer
 finalGiven kilowatts = record { number = 0; kilowatts = kilowatts }
+
+-- What keeps finals from a book to a later one: n and lead stay, the clock does not fall, a pair once held stays held, and its quantities at the positions that were
+-- closed, here k + 1, stay
+pub record Later (before after : Bytes) : Type 0 where
+  pub n : nOf (dayBlock after) ≡ nOf (dayBlock before)
+  pub leads : lead (dayBlock after) ≡ lead (dayBlock before)
+  pub clocks : clockPlus10080 (dayBlock before) ≤ clockPlus10080 (dayBlock after)
+  pub kept : (e p : Bytes) → isHeld (held (used before) e p) ≡ true → isHeld (held (used after) e p) ≡ true
+  pub values : (e p : Bytes) (k : ℕ) → k < 100 → closed (dayBlock before) (k + 1) ≡ true → heldAt (held (used after) e p) k ≡ heldAt (held (used before) e p) k
 
 -- the bytes of the series that sender e last sent under a pair, sender's slot, mark and check apart; of the first block of its latest message, nets and check apart
 unfoldable pub plainContent : List Bytes → Bytes → Bytes → Option Bytes
@@ -55,6 +72,31 @@ plainContent ms e p = Option·map content (find (pairIs p) (seriesOfLatest (late
 
 unfoldable pub plainHeadContent : List Bytes → Bytes → Option Bytes
 plainHeadContent ms e = Option·map (λ m. headContent (headOf m)) (latest e ms)
+
+-- the series with an id that sender e last sent
+unfoldable pub plainStoredAs : (messages : List Bytes) (e : Bytes) (id : Bytes) → Option Block
+plainStoredAs messages e id = find (idIs id) (seriesOfLatest (latest e messages))
+
+-- the answer to who asks for a mark, from the mark's bytes
+unfoldable pub markGiven : (mark : Bytes) → MarkAnswer
+markGiven mark = markAnswerOf 0 (number 1 0 mark) (number 1 1 mark) (number 2 2 mark)
+
+-- the plain rule's mark of a series y that sender e last sent, its counterpart standing in a slot
+unfoldable pub plainMarkFound : (messages : List Bytes) (e : Bytes) (slot : ℕ) (found : Option Block) → MarkAnswer
+plainMarkFound messages e slot none = markAnswerOf 23 0 0 0
+plainMarkFound messages e slot (some y) = markGiven (plainMark messages e (pair y) slot)
+
+unfoldable pub plainMarkAnswer : (messages : List Bytes) (e : Bytes) (id : Bytes) (slot : ℕ) → MarkAnswer
+plainMarkAnswer messages e id slot = plainMarkFound messages e slot (plainStoredAs messages e id)
+
+-- a final value by what each party last sent, in place of what the book holds
+unfoldable pub plainFinal : (day : Block) (messages : List Bytes) (seller : Bytes) (buyer : Bytes) (position : ℕ) → FinalAnswer
+plainFinal day messages seller buyer position =
+    cond (is position 0 or less (nOf day) position) (finalRefused 24)
+    (cond (neg (closed day position)) (finalRefused 25)
+    (cond (neg (isHeld (plainHeld messages seller (buyer ++ seller)) or isHeld (plainHeld messages buyer (buyer ++ seller)))) (finalRefused 26)
+    (finalGiven
+    (finalOf (heldAt (plainHeld messages seller (buyer ++ seller)) (position - 1)) (heldAt (plainHeld messages buyer (buyer ++ seller)) (position - 1))))))
 
 -- x is the counterpart of a series of the sender e, among the used slots us
 unfoldable pub isCounterpartOf : List Block → Bytes → Block → Bool

@@ -6,38 +6,30 @@ use Rattle.laws.specs.Tests.Laws.{split, or-left, or-right, or-yes-left, or-yes
 use Rattle.laws.specs.Lists.{same, find, has}
 use Rattle.laws.specs.Lists.Same.{same-yes}
 use Rattle.laws.specs.Lists.Each.{all-find}
-use Rattle.laws.specs.Lists.Search.{has-yes, has-no-find, find-passes, find-sieve}
+use Rattle.laws.specs.Lists.Search.{has-yes, has-no-find, find-passes}
 use Rattle.paper.specs.declared.FinalAnswer.{FinalAnswer}
 use Rattle.paper.specs.Layout.{Bytes, Block, nOf, lead, clockPlus10080, sender, pair, quantities, entry, quantity, withClock}
-use Rattle.paper.specs.Book.{dayBlock, used, slotOf, isSeriesOf, ownSeries, pairIs, isSeriesOfPair}
+use Rattle.paper.specs.Book.{dayBlock, used, ownSeries, pairIs}
 use Rattle.paper.specs.Sound.{sound}
 use Rattle.paper.specs.Rules.{numberOf, isOpen, closed, storedOf, verdict}
-use Rattle.paper.specs.Acceptance.{accepted}
+use Rattle.paper.specs.Acceptance.{accepted, submitted}
 use Rattle.paper.specs.Finals.{held, isHeld, heldAt, finalRefused, finalIn, final}
-use Rattle.paper.specs.Opening.{openNumber}
 use Rattle.paper.specs.Clock.{clockAnswer, clockMoved}
 use Rattle.paper.specs.Calls.{Call, Desk, step, run, opening, clockMove, submission, reading}
 use Rattle.facts.specs.Layout.{clock-with-clock, n-with-clock, lead-with-clock, entry-quantities, quantity-nothing, entry-nothing}
-use Rattle.promises.specs.Words.{NotOpened, Unopened, finalGiven}
+use Rattle.promises.specs.Words.{NotOpened, Unopened, finalGiven, Later}
 use Rattle.facts.specs.Sound.{Sound, sound-says, is-sound, day-n, day-block-length}
 use Rattle.facts.specs.Verdict.{Line, Accepts, accepts}
 use Rattle.facts.specs.Calls.{Moves, moves}
-use Rattle.facts.specs.Pairs.{pair-is-yes, of-pair-own, of-pair-other, viewFound, viewHeld}
+use Rattle.facts.specs.Pairs.{pair-is-yes, viewFound, viewHeld, held-viewed}
 use Rattle.promises.specs.Laws.Parts.{Acceptance, parts}
 use Rattle.promises.specs.Laws.Stored.{held-accepted}
 use Rattle.facts.specs.Stored.{present-pair}
 use Rattle.promises.specs.Laws.ReadBack.{used-accepted, day-block-accepted}
 use Rattle.promises.specs.Laws.Refusals.{opening-refused, clock-refused, submission-refused, submission-accepted}
 use Rattle.promises.specs.Laws.Soundness.{day-block-moved, used-moved}
+use Rattle.promises.specs.Laws.ById.{own-viewed}
 use Rattle.promises.specs.Laws.Invariant.{Invariant, invariant-run}
-
--- what a reading at a closed position rests on: position k + 1
-record Later (b c : Bytes) : Type 0 where
-  pub n : nOf (dayBlock c) ≡ nOf (dayBlock b)
-  pub leads : lead (dayBlock c) ≡ lead (dayBlock b)
-  pub clocks : clockPlus10080 (dayBlock b) ≤ clockPlus10080 (dayBlock c)
-  pub kept : (e p : Bytes) → isHeld (held (used b) e p) ≡ true → isHeld (held (used c) e p) ≡ true
-  pub values : (e p : Bytes) (k : ℕ) → k < 100 → closed (dayBlock b) (k + 1) ≡ true → heldAt (held (used c) e p) k ≡ heldAt (held (used b) e p) k
 
 closed-later : (d e : Block) (p : ℕ) → lead e ≡ lead d → clockPlus10080 d ≤ clockPlus10080 e → closed d p ≡ true → closed e p ≡ true
 unfolding closed isOpen
@@ -45,10 +37,10 @@ closed-later d e p l c h =
     let q : 15 * (p - 1) + 10080 < clockPlus10080 d + lead d = upto-no _ _ (neg-yes _ h) in
     neg-true _ (upto-false _ _ (omega arith))
 
-later-refl : (b : Bytes) → Later b b
+pub later-refl : (b : Bytes) → Later b b
 later-refl b = record { n = refl; leads = refl; clocks = le-refl (clockPlus10080 (dayBlock b)); kept = λ e p h. h; values = λ e p k l h. refl }
 
-later-trans : (a b c : Bytes) → Later a b → Later b c → Later a c
+pub later-trans : (a b c : Bytes) → Later a b → Later b c → Later a c
 later-trans a b c f g = record {
   n = g .n ∙ f .n;
   leads = g .leads ∙ f .leads;
@@ -76,9 +68,7 @@ later-moved book minute m =
 
 -- what the sender holds under a pair is what its stored series has
 own-held : (us : List Block) (e p : Bytes) → viewFound quantities (pairIs p) (ownSeries us e) ≡ held us e p
-unfolding viewFound ownSeries held
-own-held us e p = ap (Option·map quantities) (find-sieve (pairIs p) (isSeriesOf (slotOf us e)) (isSeriesOfPair (slotOf us e) p) (of-pair-own (slotOf us e) p)
-    (of-pair-other (slotOf us e) p) us)
+own-held us e p = own-viewed quantities us e p ∙ sym (held-viewed us e p)
 
 stored-value : (own : List Block) (y : Block) (k : ℕ) → k < 100 → quantity (storedOf own y) k ≡ heldAt (viewFound quantities (pairIs (pair y)) own) k
 unfolding storedOf heldAt viewFound
@@ -143,18 +133,25 @@ module _ (book message : Bytes) (a : Accepts book message) where
     values = values-now;
   }
 
+-- ---- one call, accepted or refused
+
+pub later-clock : (book : Bytes) (minute : ℕ) → Later book (clockMoved book minute)
+later-clock book minute = split (is ((clockAnswer book minute) .number) 0)
+    (λ t. later-moved book minute (moves book minute (is-yes _ _ t)))
+    (λ t. rw (clock-refused book minute (is-no _ _ t)) (later-refl book))
+
+pub later-submission : (book message : Bytes) → Later book (submitted book message)
+later-submission book message = split (is (numberOf (verdict book message)) 0)
+    (λ t. rw (submission-accepted book message (is-yes _ _ t)) (later-accepted book message (accepts book message (is-yes _ _ t))))
+    (λ t. rw (submission-refused book message (is-no _ _ t)) (later-refl book))
+
 -- ---- any calls
 
 later-step : (k : Desk) (c : Call) → NotOpened k c → Later (k .book) ((step k c) .book)
 unfolding step
-later-step k (opening o) s = split (is (openNumber (k .book) o) 0) (λ t. absurd (s (is-yes _ _ t))) (λ t. rw (opening-refused (k .book) o (is-no _ _ t))
-    (later-refl (k .book)))
-later-step k (clockMove minute) s = split (is ((clockAnswer (k .book) minute) .number) 0)
-    (λ t. later-moved (k .book) minute (moves (k .book) minute (is-yes _ _ t)))
-    (λ t. rw (clock-refused (k .book) minute (is-no _ _ t)) (later-refl (k .book)))
-later-step k (submission m) s = split (is (numberOf (verdict (k .book) m)) 0)
-    (λ t. rw (submission-accepted (k .book) m (is-yes _ _ t)) (later-accepted (k .book) m (accepts (k .book) m (is-yes _ _ t))))
-    (λ t. rw (submission-refused (k .book) m (is-no _ _ t)) (later-refl (k .book)))
+later-step k (opening o) s = rw (opening-refused (k .book) o s) (later-refl (k .book))
+later-step k (clockMove minute) s = later-clock (k .book) minute
+later-step k (submission m) s = later-submission (k .book) m
 later-step k reading s = later-refl (k .book)
 
 later-run : (k : Desk) (cs : List Call) → Unopened k cs → Later (k .book) ((run k cs) .book)
@@ -204,12 +201,12 @@ module _ (b c : Bytes) (f : Later b c) (few : nOf (dayBlock b) ≤ 100) (seller 
       position : (is p 0 or less (nOf (dayBlock b)) p) ≡ false → 0 < p
       position t = positive p (is-no p 0 (or-left _ _ t))
 
-final-later : (b c : Bytes) → Sound c → Later b c → (seller buyer : Bytes) (p v : ℕ) → final b seller buyer p ≡ finalGiven v → final c seller buyer p ≡ finalGiven v
+pub final-carried : (b c : Bytes) → Sound c → Later b c → (seller buyer : Bytes) (p v : ℕ) → final b seller buyer p ≡ finalGiven v → final c seller buyer p ≡ finalGiven v
 unfolding final
-final-later b c s f seller buyer p v r = split (sound b)
+final-carried b c s f seller buyer p v r = split (sound b)
     (λ t. rw (is-sound c s) (final-in-later b c f (day-n _ (sound-says b t .day)) seller buyer p v (rw t at r)))
     (λ t. absurd (refused-not-given 0 v (rw t at r)))
 
 pub final-stays : (k : Desk) (calls : List Call) → Invariant (k .book) (k .messages) → Unopened k calls → (seller buyer : Bytes) (p v : ℕ)
     → final (k .book) seller buyer p ≡ finalGiven v → final ((run k calls) .book) seller buyer p ≡ finalGiven v
-final-stays k calls i q seller buyer p v r = final-later (k .book) ((run k calls) .book) (invariant-run k calls i .good) (later-run k calls q) seller buyer p v r
+final-stays k calls i q seller buyer p v r = final-carried (k .book) ((run k calls) .book) (invariant-run k calls i .good) (later-run k calls q) seller buyer p v r

@@ -1,14 +1,14 @@
 -- What holds of a book and the messages accepted since it was opened: it holds after an accepted opening, each call keeps it, and so it holds after any calls.
-use Rattle.laws.specs.Base.{_≡_, refl, sym, ap, _∙_, cond, some, Option·map, List, [], _∷_, _++_, ℕ}
+use Rattle.laws.specs.Base.{_≡_, refl, sym, ap, _∙_, true, cond, some, Option·map, List, [], _∷_, _++_, ℕ}
 use Rattle.laws.specs.Tests.{is}
 use Rattle.laws.specs.Tests.Laws.{split, is-yes, is-no}
-use Rattle.laws.specs.Lists.{same, find}
+use Rattle.laws.specs.Lists.{same, find, apart}
 use Rattle.paper.specs.Layout.{Bytes, Block, nOf, sender, nets, quantities}
 use Rattle.paper.specs.Book.{dayBlock, used, pairIs, isSenderBlockOf, slotOf, isSeriesOfPair}
 use Rattle.paper.specs.Message.{headOf, seriesOf}
 use Rattle.paper.specs.Rules.{numberOf, verdict}
 use Rattle.paper.specs.Nets.{netsOf}
-use Rattle.paper.specs.Acceptance.{accepted}
+use Rattle.paper.specs.Acceptance.{accepted, submitted}
 use Rattle.paper.specs.Finals.{held}
 use Rattle.paper.specs.Opening.{Opening, openNumber, opened}
 use Rattle.paper.specs.Clock.{clockAnswer, clockMoved}
@@ -17,7 +17,7 @@ use Rattle.paper.specs.Calls.{Call, Desk, step, run, submission, reading, openi
 use Rattle.facts.specs.Layout.{n-with-clock}
 use Rattle.facts.specs.Book.{used-lengths}
 use Rattle.facts.specs.Sound.{Sound}
-use Rattle.facts.specs.Verdict.{Accepts, accepts}
+use Rattle.facts.specs.Verdict.{sameIdOrPair, Accepts, accepts}
 use Rattle.facts.specs.Calls.{Moves, moves, Opens, opens}
 use Rattle.facts.specs.Pairs.{viewFound, viewHeld, held-viewed}
 use Rattle.facts.specs.Renewal.{shape}
@@ -27,7 +27,7 @@ use Rattle.promises.specs.Laws.ReadBack.{used-accepted, day-block-accept
 use Rattle.promises.specs.Laws.Refusals.{opening-refused, clock-refused, submission-refused, submission-accepted}
 use Rattle.promises.specs.Laws.Soundness.{sound-accepted, day-block-moved, used-moved, sound-moved, used-opened, sound-opened}
 use Rattle.promises.specs.Laws.Stored.{held-accepted, content-accepted}
-use Rattle.promises.specs.Words.{content, headContent, plainContent, plainHeadContent}
+use Rattle.promises.specs.Words.{content, headContent, messagesAfter, plainContent, plainHeadContent}
 
 -- ---- the messages, one longer
 
@@ -59,6 +59,11 @@ plain-nets-more : (ms : List Bytes) (m e : Bytes) → plainNets (ms ++ m ∷ [])
 unfolding plainNets
 plain-nets-more ms m e = split (same (sender (headOf m)) e) (λ t. rw (latest-more e ms m, t)) (λ t. rw (latest-more e ms m, t))
 
+distinct-more : (ms : List Bytes) (m : Bytes) → apart sameIdOrPair (seriesOf m) ≡ true → ((e : Bytes) → apart sameIdOrPair (seriesOfLatest (latest e ms)) ≡ true)
+    → (e : Bytes) → apart sameIdOrPair (seriesOfLatest (latest e (ms ++ m ∷ []))) ≡ true
+unfolding seriesOfLatest
+distinct-more ms m d v e = split (same (sender (headOf m)) e) (λ t. rw (latest-more e ms m, t) d) (λ t. rw (latest-more e ms m, t) (v e))
+
 -- ---- what holds
 
 pub record Invariant (book : Bytes) (messages : List Bytes) : Type 0 where
@@ -69,6 +74,8 @@ pub record Invariant (book : Bytes) (messages : List Bytes) : Type 0 where
   pub marks : MarksTrue (nOf (dayBlock book)) (used book)
   pub kept-nets : NetsTrue (used book)
   pub plain : (e : Bytes) → Option·map nets (find (isSenderBlockOf e) (used book)) ≡ plainNets messages e
+  -- no id and no pair twice in a sender's latest message
+  pub distinct : (e : Bytes) → apart sameIdOrPair (seriesOfLatest (latest e messages)) ≡ true
 
 -- what is held is what was last sent, in the words of the plain rule
 pub held-plain : (book : Bytes) (ms : List Bytes) → Invariant book ms → (e p : Bytes) → held (used book) e p ≡ plainHeld ms e p
@@ -97,10 +104,11 @@ invariant-accepted book ms m a v = record {
   plain = λ e.
       ap (λ us. Option·map nets (find (isSenderBlockOf e) us)) (used-accepted book m a) ∙ nets-after book m a e
       ∙ ap (cond (same (sender (headOf m)) e) (some (netsOf e (seriesOf m)))) (v .plain e) ∙ sym (plain-nets-more ms m e);
+  distinct = distinct-more ms m (a .distinct-all) (v .distinct);
 }
 
 pub invariant-opened : (book : Bytes) (o : Opening) → openNumber book o ≡ 0 → Invariant (opened book o) []
-unfolding viewHeld viewFound find plainNets plainHeadContent latest seriesOfLatest MarksTrue NetsTrue
+unfolding viewHeld viewFound find plainNets plainHeadContent latest seriesOfLatest MarksTrue NetsTrue apart
 invariant-opened book o e =
     let p : Opens book o = opens book o e in
     record {
@@ -111,6 +119,7 @@ invariant-opened book o e =
       marks = rw (used-opened book o p) tt;
       kept-nets = rw (used-opened book o p) tt;
       plain = λ t. rw (used-opened book o p);
+      distinct = λ t. refl;
     }
 
 invariant-moved : (book : Bytes) (ms : List Bytes) (minute : ℕ) → Moves book minute → Invariant book ms → Invariant (clockMoved book minute) ms
@@ -124,21 +133,34 @@ invariant-moved book ms minute m v =
       marks = rw (n, used-moved book minute m) (v .marks);
       kept-nets = rw (used-moved book minute m) (v .kept-nets);
       plain = λ e. rw (used-moved book minute m) (v .plain e);
+      distinct = v .distinct;
     }
+
+-- ---- one call, accepted or refused
+
+pub opening-kept : (book : Bytes) (ms : List Bytes) (o : Opening) → Invariant book ms → Invariant (opened book o) (cond (is (openNumber book o) 0) [] ms)
+opening-kept book ms o v = split (is (openNumber book o) 0)
+    (λ t. rw t (invariant-opened book o (is-yes _ _ t)))
+    (λ t. rw (t, opening-refused book o (is-no _ _ t)) v)
+
+pub clock-kept : (book : Bytes) (ms : List Bytes) (minute : ℕ) → Invariant book ms → Invariant (clockMoved book minute) ms
+clock-kept book ms minute v = split (is ((clockAnswer book minute) .number) 0)
+    (λ t. invariant-moved book ms minute (moves book minute (is-yes _ _ t)) v)
+    (λ t. rw (clock-refused book minute (is-no _ _ t)) v)
+
+pub submission-kept : (book : Bytes) (ms : List Bytes) (m : Bytes) → Invariant book ms → Invariant (submitted book m) (messagesAfter book m ms)
+unfolding messagesAfter
+submission-kept book ms m v = split (is (numberOf (verdict book m)) 0)
+    (λ t. rw (t, submission-accepted book m (is-yes _ _ t)) (invariant-accepted book ms m (accepts book m (is-yes _ _ t)) v))
+    (λ t. rw (t, submission-refused book m (is-no _ _ t)) v)
 
 -- ---- any calls
 
-pub invariant-step : (k : Desk) (c : Call) → Invariant (k .book) (k .messages) → Invariant ((step k c) .book) ((step k c) .messages)
-unfolding step
-invariant-step k (opening o) v = split (is (openNumber (k .book) o) 0)
-    (λ t. rw t (invariant-opened (k .book) o (is-yes _ _ t)))
-    (λ t. rw (t, opening-refused (k .book) o (is-no _ _ t)) v)
-invariant-step k (clockMove minute) v = split (is ((clockAnswer (k .book) minute) .number) 0)
-    (λ t. invariant-moved (k .book) (k .messages) minute (moves (k .book) minute (is-yes _ _ t)) v)
-    (λ t. rw (clock-refused (k .book) minute (is-no _ _ t)) v)
-invariant-step k (submission m) v = split (is (numberOf (verdict (k .book) m)) 0)
-    (λ t. rw (t, submission-accepted (k .book) m (is-yes _ _ t)) (invariant-accepted (k .book) (k .messages) m (accepts (k .book) m (is-yes _ _ t)) v))
-    (λ t. rw (t, submission-refused (k .book) m (is-no _ _ t)) v)
+invariant-step : (k : Desk) (c : Call) → Invariant (k .book) (k .messages) → Invariant ((step k c) .book) ((step k c) .messages)
+unfolding step messagesAfter
+invariant-step k (opening o) v = opening-kept (k .book) (k .messages) o v
+invariant-step k (clockMove minute) v = clock-kept (k .book) (k .messages) minute v
+invariant-step k (submission m) v = submission-kept (k .book) (k .messages) m v
 invariant-step k reading v = v
 
 pub invariant-run : (k : Desk) (cs : List Call) → Invariant (k .book) (k .messages) → Invariant ((run k cs) .book) ((run k cs) .messages)

@@ -1,13 +1,13 @@
 -- The marks kept are the plain rule's: a true mark is worked out from the series' quantities and its counterpart's, these are what the two parties last sent
 -- under the pair, and the slot in it is the counterpart's.
-use Rattle.laws.specs.Base.{_≡_, refl, sym, ap, ap₂, _∙_, Bool, true, false, true≢false, Option, none, some, Option·getD, Option·map, List, [], _∷_, ℕ, zero, suc, _<_, arith}
+use Rattle.laws.specs.Base.{_≡_, refl, sym, ap, ap₂, _∙_, Bool, true, false, true≢false, Option, none, some, Option·getD, Option·map, List, [], _∷_, ℕ, _<_, arith}
 use Rattle.laws.specs.Tests.{_or_, neg}
-use Rattle.laws.specs.Tests.Laws.{split, clash, and-left, and-right, and-both, or-yes-left, or-yes-right, neg-yes, neg-true, is-yes}
+use Rattle.laws.specs.Tests.Laws.{split, and-left, and-both, or-yes-left, or-yes-right, neg-true, is-yes}
 use Rattle.laws.specs.Lists.{same, find, has, place, nth, every, apart, All}
 use Rattle.laws.specs.Lists.Same.{same-equal}
-use Rattle.laws.specs.Lists.Each.{all-imply, all-nth, all-find, every-all, all-every}
+use Rattle.laws.specs.Lists.Each.{all-imply, all-nth, all-find, all-every}
 use Rattle.laws.specs.Lists.Search.{has-yes, find-passes, find-agree, place-length, nth-place, place-agree}
-use Rattle.laws.specs.Bytes.{number}
+use Rattle.laws.specs.Bytes.{part, value, number}
 use Rattle.laws.specs.Bytes.Laws.{number-part}
 use Rattle.paper.specs.Layout.{Bytes, Block, nOf, sender, nets, sendersSlot, pair, mark, partner, quantities}
 use Rattle.paper.specs.Book.{dayBlock, used, isSender, isSeries, isSenderBlockOf, slotOf, ownSeries, isSeriesOfPair}
@@ -27,6 +27,7 @@ use Rattle.facts.specs.Senders.{slot-of-one, Owner, Owned, owned}
 use Rattle.promises.specs.Laws.SoundApart.{same-series-yes, same-pair-yes}
 use Rattle.promises.specs.Laws.SoundSeries.{partner-in}
 use Rattle.promises.specs.Laws.NetsTrue.{NetsTrue}
+use Rattle.promises.specs.Laws.ById.{apart-find}
 use Rattle.promises.specs.Laws.Invariant.{Invariant, held-plain}
 use Rattle.promises.specs.Laws.Sides.{sides}
 use Rattle.promises.specs.Words.{headContent, plainHeadContent}
@@ -35,21 +36,19 @@ use Rattle.promises.specs.Words.{headContent, plainHeadContent}
 
 found-itself : (l : List Block) → apart sameSeries l ≡ true → (slot : ℕ) (x : Block) → nth l slot ≡ some x → isSeries x ≡ true → find
     (isSeriesOfPair (sendersSlot x) (pair x)) l ≡ some x
-unfolding nth apart find
-found-itself [] a slot x e s = let z : true ≡ false = cc in absurd (true≢false z)
-found-itself (y ∷ ys) a zero x e s = let z : true ≡ false = cc in absurd (true≢false z)
-found-itself (y ∷ ys) a (suc zero) x e s = let i : y ≡ x = cc in rw (i, of-pair-yes (sendersSlot x) (pair x) x s refl (pair-is-equal (pair x) x refl))
-found-itself (y ∷ ys) a (suc (suc k)) x e s =
-    let n : sameSeries y x ≡ false = neg-yes _ (all-nth (λ z. neg (sameSeries y z) ≡ true) ys (suc k) x (every-all _ ys (and-left _ _ a)) e) in
-    let q : isSeriesOfPair (sendersSlot x) (pair x) y ≡ false = split (isSeriesOfPair (sendersSlot x) (pair x) y)
-    (λ t. clash (same-series-yes y x (of-pair-series _ _ y t) s (of-pair-slot _ _ y t) (same-pair-yes y x (of-pair-pair _ _ y t))) n) (λ t. t) in
-    rw q (found-itself ys (and-right _ _ a) (suc k) x e s)
+found-itself l a slot x e s = apart-find sameSeries (isSeriesOfPair (sendersSlot x) (pair x)) l a slot x e
+    (of-pair-yes (sendersSlot x) (pair x) x s refl (pair-is-equal (pair x) x refl))
+    (λ y t. same-series-yes y x (of-pair-series _ _ y t) s (of-pair-slot _ _ y t) (same-pair-yes y x (of-pair-pair _ _ y t)))
 
 -- ---- a mark and the slot in it
 
 slot-in-mark : (n : ℕ) (a q : Bytes) (slot : ℕ) (x : Block) → slot < 65536 → mark x ≡ markOf n a (some q) slot → partner x ≡ slot
 unfolding markOf
 slot-in-mark n a q slot x h e = mark-partner x ∙ ap (number 2 2) e ∙ partner-in _ _ slot h
+
+no-slot-in-mark : (n : ℕ) (a : Bytes) (slot : ℕ) (x : Block) → mark x ≡ markOf n a none slot → partner x ≡ 0
+unfolding markOf number part value
+no-slot-in-mark n a slot x e = mark-partner x ∙ ap (number 2 2) e
 
 mark-by-partner : (n : ℕ) (a : Bytes) (o : Option Bytes) (slot : ℕ) (x : Block) → slot < 65536 → mark x ≡ markOf n a o slot → mark x ≡ markOf n a o (partner x)
 unfolding markOf
@@ -66,6 +65,15 @@ n-of-head : (s : Block) (found : Option Bytes) → some (headContent s) ≡ Opti
 unfolding nOfLatest
 n-of-head s none e = let z : true ≡ false = cc in absurd (true≢false z)
 n-of-head s (some m) e = let h : headContent s ≡ headContent (headOf m) = cc in sym (n-in-head (headOf m)) ∙ ap (number 1 1) (sym h) ∙ n-in-head s
+
+nth-zero : (l : List Block) → nth l 0 ≡ none
+unfolding nth
+nth-zero [] = refl
+nth-zero (x ∷ l) = refl
+
+not-found : (o : Option Block) → Option·map quantities o ≡ none → o ≡ none
+not-found none e = refl
+not-found (some y) e = let z : true ≡ false = cc in absurd (true≢false z)
 
 quantities-found-yes : (p : Block → Bool) (l : List Block) (q : Bytes) → viewFound quantities p l ≡ some q → (y : Block) × (find p l ≡ some y) × (quantities y ≡ q)
 unfolding viewFound
@@ -134,18 +142,29 @@ module _ (book : Bytes) (ms : List Bytes) (v : Invariant book ms) where
         ∙ ap₂ (λ o m. markOf m (Option·getD o []) (plainHeld ms other (pair x)) (partner x)) (sym own-held)
         (sym (n-latest e (rw eic-is (owner-named slot x h s .known))))
 
+    -- the slot in it holds the series of the other party with the pair; where there is none it is 0, and no slot has that number
+    pub partner-found : nth (used book) (partner x) ≡ find (isSeriesOfPair (slotOf (used book) (otherParty e (pair x))) (pair x)) (used book)
+    unfolding held
+    partner-found = by (plainHeld ms other (pair x)) refl
+      where
+        other's : Block → Bool
+        other's = isSeriesOfPair (slotOf us other) (pair x)
+
+        by : (o : Option Bytes) → plainHeld ms other (pair x) ≡ o → nth us (partner x) ≡ find (isSeriesOfPair (slotOf us other) (pair x)) us
+        by none f = ap (nth us) (no-slot-in-mark n (quantities x) _ x (due ∙ ap (λ o. markOf n (quantities x) o (place other's us)) f)) ∙ nth-zero us
+            ∙ sym (not-found (find other's us) (held-plain book ms v other (pair x) ∙ f))
+        by (some q) f = ap (nth us) (slot-in-mark n (quantities x) q _ x (few _) (due ∙ ap (λ o. markOf n (quantities x) o (place other's us)) f)) ∙ nth-place _ us
+
     pub partner-plain : (q : Bytes) → plainHeld ms (otherParty e (pair x)) (pair x) ≡ some q
-        → (y : Block) × (nth (used book) (partner x) ≡ some y) × (slotOf (used book) (otherParty e (pair x)) ≡ sendersSlot y) × (pair y ≡ pair x) ×
-        (quantities y ≡ q)
+        → (y : Block) × (nth (used book) (partner x) ≡ some y) × (isSeries y ≡ true) × (slotOf (used book) (otherParty e (pair x)) ≡ sendersSlot y)
+        × (pair y ≡ pair x) × (quantities y ≡ q)
     unfolding viewHeld
     partner-plain q f =
         let r = quantities-found-yes (isSeriesOfPair (slotOf us other) (pair x)) us q (sym (held-viewed us other (pair x)) ∙ held-plain book ms v other (pair x)
         ∙ f) in
         let y : Block = r .0 in
         let g : isSeriesOfPair (slotOf us other) (pair x) y ≡ true = find-passes _ us y (r .1) in
-        let p : partner x ≡ place (isSeriesOfPair (slotOf us other) (pair x)) us = slot-in-mark n (quantities x) q _ x (few _)
-        (due ∙ ap (λ o. markOf n (quantities x) o (place (isSeriesOfPair (slotOf us other) (pair x)) us)) f) in
-        (y, ap (nth us) p ∙ nth-place _ us ∙ r .1, sym (of-pair-slot _ _ y g), of-pair-pair _ _ y g, r .2)
+        (y, partner-found ∙ r .1, of-pair-series _ _ y g, sym (of-pair-slot _ _ y g), of-pair-pair _ _ y g, r .2)
 
   -- ---- the plain run
 

@@ -1,0 +1,76 @@
+-- DEMAND 3, CALL BY CALL: what a promise on one call can cite. An accepted opening begins `Invariant book messages`, every other call keeps it, whatever it
+-- answers, and what is read of a book that has it is what the accepted messages give. `Later before after` is what keeps finals. Each proof is one line, as on
+-- the page of promises.
+use Rattle.laws.specs.Base.{_≡_, true, cond, none, some, Option·getD, Option·map, List, [], ℕ}
+use Rattle.laws.specs.Tests.{is}
+use Rattle.laws.specs.Lists.{find, nth}
+use Rattle.paper.specs.Layout.{Bytes, Block, pair}
+use Rattle.paper.specs.Book.{dayBlock, used, slotOf, isSeriesOfPair}
+use Rattle.paper.specs.Sound.{sound}
+use Rattle.paper.specs.Acceptance.{submitted}
+use Rattle.paper.specs.Finals.{final}
+use Rattle.paper.specs.Opening.{Opening, openNumber, opened}
+use Rattle.paper.specs.Clock.{clockMoved}
+use Rattle.paper.specs.Readings.{storedAs, markAnswer, acceptedBlock}
+use Rattle.paper.specs.PlainRule.{otherParty}
+use Rattle.facts.specs.Sound.{is-sound, sound-says}
+use Rattle.promises.specs.Laws.Finals.{later-refl, later-trans, later-clock, later-submission, final-carried}
+use Rattle.promises.specs.Laws.Invariant.{Invariant, invariant-opened, opening-kept, clock-kept, submission-kept}
+use Rattle.promises.specs.Laws.Readings.{stored-plain, accepted-block-plain, accepted-block-none, mark-reading, partner-reading, final-reading}
+use Rattle.promises.specs.Words.{content, finalGiven, messagesAfter, Later, plainStoredAs, plainMarkAnswer, plainFinal}
+
+-- ---- 1. Calls that write
+
+-- an accepted opening, of any bytes: no message is accepted yet
+pub opening-begins : (buffer : Bytes) (o : Opening) → openNumber buffer o ≡ 0 → Invariant (opened buffer o) []
+opening-begins = invariant-opened
+
+module _ (book : Bytes) (messages : List Bytes) (holds : Invariant book messages) where
+  pub sound-book : sound book ≡ true
+  sound-book = is-sound book (holds .good)
+
+  pub opening-keeps : (o : Opening) → Invariant (opened book o) (cond (is (openNumber book o) 0) [] messages)
+  opening-keeps o = opening-kept book messages o holds
+
+  pub clock-keeps : (minute : ℕ) → Invariant (clockMoved book minute) messages × Later book (clockMoved book minute)
+  clock-keeps minute = (clock-kept book messages minute holds, later-clock book minute)
+
+  pub submission-keeps : (message : Bytes) → Invariant (submitted book message) (messagesAfter book message messages) × Later book (submitted book message)
+  submission-keeps message = (submission-kept book messages message holds, later-submission book message)
+
+  -- ---- 2. Readings
+
+  -- the stored series with an id of a sender is the one that its latest message has, sender's slot, mark and check apart
+  pub stored-as-sent : (e id : Bytes) → Option·map content (storedAs (used book) e id) ≡ Option·map content (plainStoredAs messages e id)
+  stored-as-sent = stored-plain book messages holds
+
+  pub accepted-block-as-sent : (e id : Bytes) → content (acceptedBlock book e id) ≡ content (Option·getD (plainStoredAs messages e id) [])
+  accepted-block-as-sent = accepted-block-plain book messages holds
+
+  pub no-accepted-block : (e id : Bytes) → plainStoredAs messages e id ≡ none → acceptedBlock book e id ≡ []
+  no-accepted-block = accepted-block-none book messages holds
+
+  -- its mark is the plain rule's, 23 where the message has no such series; the slot that the answer names is told the rule
+  pub mark-as-ruled : (e id : Bytes) → markAnswer book e id ≡ plainMarkAnswer messages e id ((markAnswer book e id) .partner .0)
+  mark-as-ruled = mark-reading book messages holds
+
+  -- and that slot holds the series of the other party with the same pair; it is 0, which no slot is, where there is none
+  pub partner-as-ruled : (e id : Bytes) (y : Block) → plainStoredAs messages e id ≡ some y
+      → nth (used book) ((markAnswer book e id) .partner .0) ≡ find (isSeriesOfPair (slotOf (used book) (otherParty e (pair y))) (pair y)) (used book)
+  partner-as-ruled = partner-reading book messages holds
+
+  -- a final is worked out from what each party last sent
+  pub final-as-sent : (seller buyer : Bytes) (position : ℕ) → final book seller buyer position ≡ plainFinal (dayBlock book) messages seller buyer position
+  final-as-sent = final-reading book messages holds
+
+-- ---- 3. Finals, over any number of calls
+
+pub later-same : (book : Bytes) → Later book book
+later-same = later-refl
+
+pub later-further : (first second third : Bytes) → Later first second → Later second third → Later first third
+later-further = later-trans
+
+pub final-later : (before after : Bytes) → sound after ≡ true → Later before after → (seller buyer : Bytes) (position v : ℕ)
+    → final before seller buyer position ≡ finalGiven v → final after seller buyer position ≡ finalGiven v
+final-later before after s = final-carried before after (sound-says after s)
