@@ -4,6 +4,9 @@ pub mod Layout
 pub mod Book
 pub mod Eic
 pub mod QuantityText
+-- what marks and nets say
+pub mod Marks
+pub mod Nets
 -- the only door from a test to what it gives: a sound book, a message let through, a clock move, an opening
 pub mod Sound
 pub mod Verdict

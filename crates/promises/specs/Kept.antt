@@ -1,22 +1,24 @@
 -- DEMAND 3, CALL BY CALL: what a promise on one call can cite. An accepted opening begins `Invariant book messages`, every other call keeps it, whatever it
 -- answers, and what is read of a book that has it is what the accepted messages give. `Later before after` is what keeps finals. Each proof is one line, as on
 -- the page of promises.
-use Rattle.laws.specs.Base.{_≡_, true, cond, none, some, Option·getD, Option·map, List, [], ℕ}
+use Rattle.laws.specs.Base.{_≡_, true, cond, none, some, Option·getD, Option·map, List, [], ℕ, _<_}
 use Rattle.laws.specs.Tests.{is}
 use Rattle.laws.specs.Lists.{find, nth}
-use Rattle.paper.specs.Layout.{Bytes, Block, pair}
-use Rattle.paper.specs.Book.{dayBlock, used, slotOf, isSeriesOfPair}
+use Rattle.paper.specs.Layout.{Bytes, Block, net, pair}
+use Rattle.paper.specs.Book.{dayBlock, used, isSenderBlockOf, slotOf, isSeriesOfPair}
 use Rattle.paper.specs.Sound.{sound}
+use Rattle.paper.specs.Nets.{bought, sold}
 use Rattle.paper.specs.Acceptance.{submitted}
 use Rattle.paper.specs.Finals.{final}
 use Rattle.paper.specs.Opening.{Opening, openNumber, opened}
 use Rattle.paper.specs.Clock.{clockMoved}
 use Rattle.paper.specs.Readings.{storedAs, markAnswer, acceptedBlock}
-use Rattle.paper.specs.PlainRule.{otherParty}
+use Rattle.paper.specs.PlainRule.{latest, seriesOfLatest, otherParty}
 use Rattle.facts.specs.Sound.{is-sound, sound-says}
+use Rattle.facts.specs.Nets.{SignedSum}
 use Rattle.promises.specs.Laws.Finals.{later-refl, later-trans, later-clock, later-submission, final-carried}
 use Rattle.promises.specs.Laws.Invariant.{Invariant, invariant-opened, opening-kept, clock-kept, submission-kept}
-use Rattle.promises.specs.Laws.Readings.{stored-plain, accepted-block-plain, accepted-block-none, mark-reading, partner-reading, final-reading}
+use Rattle.promises.specs.Laws.Readings.{stored-plain, accepted-block-plain, accepted-block-none, mark-reading, partner-reading, net-reading, final-reading}
 use Rattle.promises.specs.Words.{content, finalGiven, messagesAfter, Later, plainStoredAs, plainMarkAnswer, plainFinal}
 
 -- ---- 1. Calls that write
@@ -58,6 +60,11 @@ module _ (book : Bytes) (messages : List Bytes) (holds : Invariant book messages
   pub partner-as-ruled : (e id : Bytes) (y : Block) → plainStoredAs messages e id ≡ some y
       → nth (used book) ((markAnswer book e id) .partner .0) ≡ find (isSeriesOfPair (slotOf (used book) (otherParty e (pair y))) (pair y)) (used book)
   partner-as-ruled = partner-reading book messages holds
+
+  -- each net of a stored sender, at position k + 1, is the signed sum of the quantities that it last sent
+  pub net-as-summed : (e : Bytes) (s : Block) → find (isSenderBlockOf e) (used book) ≡ some s → (k : ℕ) → k < 100
+      → SignedSum (net s k) (bought e (seriesOfLatest (latest e messages)) k) (sold e (seriesOfLatest (latest e messages)) k)
+  net-as-summed = net-reading book messages holds
 
   -- a final is worked out from what each party last sent
   pub final-as-sent : (seller buyer : Bytes) (position : ℕ) → final book seller buyer position ≡ plainFinal (dayBlock book) messages seller buyer position

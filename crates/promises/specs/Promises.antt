@@ -1,25 +1,32 @@
--- THE PAGE OF PROMISES. Each promise is stated in the words of `paper`, with a few more that stand in Words; each proof is one line that cites the file that carries the weight.
-use Rattle.laws.specs.Base.{_≡_, true, false, some, Option·map, List, ℕ, _+_, _*_, length, drop}
-use Rattle.laws.specs.Lists.{find, nth}
-use Rattle.paper.specs.Layout.{Bytes, Block, sender, nets, sendersSlot, pair, mark, partner, quantities}
+-- THE PAGE OF PROMISES. Each promise is stated in the words of `paper`, with a few more that stand in Words; each proof is one line that cites the file that carries
+-- the weight.
+use Rattle.laws.specs.Base.{_≡_, true, false, some, Option·map, List, _∷_, ℕ, _+_, _*_, _≤_, _<_, length, drop}
+use Rattle.laws.specs.Lists.{find, nth, All}
+use Rattle.laws.specs.Bytes.{little}
+use Rattle.paper.specs.Layout.{Bytes, Block, sender, nets, net, sendersSlot, pair, mark, partner, quantities, quantity}
 use Rattle.paper.specs.Book.{dayBlock, used, freeSlots, isSeries, isSenderBlockOf, slotOf, isSeriesOf, isSeriesOfPair, ownSender, ownSeries}
 use Rattle.paper.specs.Sound.{sound}
 use Rattle.paper.specs.Message.{headOf}
 use Rattle.paper.specs.Rules.{numberOf, verdict}
+use Rattle.paper.specs.Marks.{firstDifference, markOf}
+use Rattle.paper.specs.Nets.{bought, sold, netOf}
 use Rattle.paper.specs.Acceptance.{accepted, submitted}
 use Rattle.paper.specs.PlainRun.{plainRun}
 use Rattle.paper.specs.Finals.{held, final}
 use Rattle.paper.specs.Opening.{Opening, openNumber, opened}
 use Rattle.paper.specs.Clock.{clockAnswer, clockMoved}
-use Rattle.paper.specs.PlainRule.{plainHeld, otherParty, plainMark, plainNets}
+use Rattle.paper.specs.PlainRule.{latest, seriesOfLatest, plainHeld, otherParty, plainMark, plainNets}
 use Rattle.paper.specs.Calls.{Call, Desk, run}
 use Rattle.facts.specs.Verdict.{accepts}
+use Rattle.facts.specs.Marks.{Agree, Differ, no-difference-agree, difference-differ, mark-agree, mark-differ}
+use Rattle.facts.specs.Nets.{SignedSum, net-signed}
 use Rattle.promises.specs.Laws.Finals.{final-stays}
 use Rattle.promises.specs.Laws.Invariant.{Invariant, held-plain, content-plain, invariant-opened, invariant-run}
 use Rattle.promises.specs.Laws.Isolation.{verdict-isolated, determined}
 use Rattle.promises.specs.Laws.Others.{others-kept, rest-kept}
 use Rattle.promises.specs.Laws.PlainMarks.{sender-named, mark-plain, partner-plain, says-yes}
 use Rattle.promises.specs.Laws.ReadBack.{day-block-accepted}
+use Rattle.promises.specs.Laws.Readings.{net-reading}
 use Rattle.promises.specs.Laws.Refusals.{opening-refused, clock-refused, submission-refused}
 use Rattle.promises.specs.Laws.Soundness.{opened-sound, moved-sound, submitted-sound}
 use Rattle.promises.specs.Words.{content, headContent, ButMark, begun, reached, Unopened, finalGiven, plainContent, plainHeadContent, isCounterpartOf, Determines}
@@ -88,6 +95,11 @@ module _ (buffer : Bytes) (o : Opening) (accepted-opening : openNumber buffer o 
   pub nets-are-the-plain-rules : (e : Bytes) → Option·map nets (find (isSenderBlockOf e) (used book)) ≡ plainNets messages e
   nets-are-the-plain-rules = holds .plain
 
+  -- and at each position, k + 1, a sender's net is the signed sum of the quantities that it last sent
+  pub kept-nets-are-signed-sums : (e : Bytes) (s : Block) → find (isSenderBlockOf e) (used book) ≡ some s → (k : ℕ) → k < 100
+      → SignedSum (net s k) (bought e (seriesOfLatest (latest e messages)) k) (sold e (seriesOfLatest (latest e messages)) k)
+  kept-nets-are-signed-sums = net-reading _ _ holds
+
   -- ---- 3. Demand 3, finals: a final value v once given for a pair and a position p is given unchanged after any further calls, until the book is opened again
 
   pub finals-stay : (further : List Call) → Unopened (reached buffer o calls) further → (seller buyer : Bytes) (p v : ℕ)
@@ -128,4 +140,26 @@ free-slots-stay book message e = rest-kept book message (accepts book message e)
 pub promises-determine : {I A : Type 0} (answer : I → A) (bytes : I → Bytes) → Determines {I = I} {A = A} (λ i r x. (r ≡ answer i) × (x ≡ bytes i))
 promises-determine = determined
 
--- ---- 8. The useless versions contradict these promises: see the crate `useless`
+-- ---- 8. What marks and nets are
+-- Facts of the definitions that demand 3 speaks in: `Agree`, `Differ` and `SignedSum` are of crates/facts, `Marks` and `Nets`.
+
+-- the first difference is 0 exactly where all n quantities agree, else the lowest position of the n at which they differ
+pub no-first-difference : (ours theirs : Bytes) (n : ℕ) → firstDifference n ours theirs ≡ 0 → Agree n ours theirs
+no-first-difference = no-difference-agree
+
+pub first-difference : (ours theirs : Bytes) (n k : ℕ) → firstDifference n ours theirs ≡ k + 1 → Differ n ours theirs k
+first-difference = difference-differ
+
+-- and so the mark beside a counterpart is
+pub mark-where-all-agree : (ours theirs : Bytes) (n slot : ℕ) → Agree n ours theirs → markOf n ours (some theirs) slot ≡ 2 ∷ 0 ∷ little 2 slot
+mark-where-all-agree = mark-agree
+
+pub mark-where-they-differ : (ours theirs : Bytes) (n slot k : ℕ) → Differ n ours theirs k → markOf n ours (some theirs) slot ≡ 3 ∷ (k + 1) ∷ little 2 slot
+mark-where-they-differ = mark-differ
+
+-- a net's word is the signed sum, exact within ±1,999,999,800, which no sum of a message's quantities passes
+pub nets-are-signed-sums : (e : Bytes) (series : List Block) (k : ℕ) → length series ≤ 200 → All (λ x. quantity x k ≤ 9999999) series
+    → SignedSum (netOf e series k) (bought e series k) (sold e series k)
+nets-are-signed-sums = net-signed
+
+-- ---- 9. The useless versions contradict these promises: see the crate `useless`

@@ -1,10 +1,11 @@
 -- What holds of a book and the messages accepted since it was opened: it holds after an accepted opening, each call keeps it, and so it holds after any calls.
-use Rattle.laws.specs.Base.{_≡_, refl, sym, ap, _∙_, true, cond, some, Option·map, List, [], _∷_, _++_, ℕ}
-use Rattle.laws.specs.Tests.{is}
-use Rattle.laws.specs.Tests.Laws.{split, is-yes, is-no}
-use Rattle.laws.specs.Lists.{same, find, apart}
-use Rattle.paper.specs.Layout.{Bytes, Block, nOf, sender, nets, quantities}
-use Rattle.paper.specs.Book.{dayBlock, used, pairIs, isSenderBlockOf, slotOf, isSeriesOfPair}
+use Rattle.laws.specs.Base.{_≡_, refl, sym, ap, _∙_, true, cond, some, Option·map, List, [], _∷_, _++_, ℕ, _≤_, _<_, arith, length}
+use Rattle.laws.specs.Tests.{is, less}
+use Rattle.laws.specs.Tests.Laws.{split, is-yes, is-no, less-yes, less-no}
+use Rattle.laws.specs.Lists.{same, find, apart, All}
+use Rattle.laws.specs.Lists.Each.{all-imply}
+use Rattle.paper.specs.Layout.{Bytes, Block, nOf, sender, nets, quantities, quantity}
+use Rattle.paper.specs.Book.{dayBlock, used, pairIs, isSenderBlockOf, slotOf, isSeriesOfPair, ownSeries}
 use Rattle.paper.specs.Message.{headOf, seriesOf}
 use Rattle.paper.specs.Rules.{numberOf, verdict}
 use Rattle.paper.specs.Nets.{netsOf}
@@ -17,7 +18,7 @@ use Rattle.paper.specs.Calls.{Call, Desk, step, run, submission, reading, openi
 use Rattle.facts.specs.Layout.{n-with-clock}
 use Rattle.facts.specs.Book.{used-lengths}
 use Rattle.facts.specs.Sound.{Sound}
-use Rattle.facts.specs.Verdict.{sameIdOrPair, Accepts, accepts}
+use Rattle.facts.specs.Verdict.{series-some-few, Line, sameIdOrPair, Accepts, accepts}
 use Rattle.facts.specs.Calls.{Moves, moves, Opens, opens}
 use Rattle.facts.specs.Pairs.{viewFound, viewHeld, held-viewed}
 use Rattle.facts.specs.Renewal.{shape}
@@ -59,10 +60,23 @@ plain-nets-more : (ms : List Bytes) (m e : Bytes) → plainNets (ms ++ m ∷ [])
 unfolding plainNets
 plain-nets-more ms m e = split (same (sender (headOf m)) e) (λ t. rw (latest-more e ms m, t)) (λ t. rw (latest-more e ms m, t))
 
-distinct-more : (ms : List Bytes) (m : Bytes) → apart sameIdOrPair (seriesOf m) ≡ true → ((e : Bytes) → apart sameIdOrPair (seriesOfLatest (latest e ms)) ≡ true)
-    → (e : Bytes) → apart sameIdOrPair (seriesOfLatest (latest e (ms ++ m ∷ []))) ≡ true
+-- a fact of the series of each sender's latest message
+sent-more : (P : List Block → Type 0) (ms : List Bytes) (m : Bytes) → P (seriesOf m) → ((e : Bytes) → P (seriesOfLatest (latest e ms)))
+    → (e : Bytes) → P (seriesOfLatest (latest e (ms ++ m ∷ [])))
 unfolding seriesOfLatest
-distinct-more ms m d v e = split (same (sender (headOf m)) e) (λ t. rw (latest-more e ms m, t) d) (λ t. rw (latest-more e ms m, t) (v e))
+sent-more P ms m p v e = split (same (sender (headOf m)) e) (λ t. rw (latest-more e ms m, t) p) (λ t. rw (latest-more e ms m, t) (v e))
+
+-- at most 200 series, no quantity above 9,999,999
+pub record Within (series : List Block) : Type 0 where
+  pub few : length series ≤ 200
+  pub small : (k : ℕ) → k < 100 → All (λ x. quantity x k ≤ 9999999) series
+
+within-sent : (book m : Bytes) → Accepts book m → Within (seriesOf m)
+within-sent book m a = record {
+  few = series-some-few m (a .right) .1;
+  small = λ k h. all-imply (Line (dayBlock book) (ownSeries (used book) (sender (headOf m))) (headOf m)) (λ x. quantity x k ≤ 9999999)
+      (λ x l. split (less k (nOf (dayBlock book))) (λ t. l .small k h (less-yes _ _ t)) (λ t. omega (arith, l .above k h (less-no _ _ t)))) (seriesOf m) (a .each);
+}
 
 -- ---- what holds
 
@@ -76,6 +90,8 @@ pub record Invariant (book : Bytes) (messages : List Bytes) : Type 0 where
   pub plain : (e : Bytes) → Option·map nets (find (isSenderBlockOf e) (used book)) ≡ plainNets messages e
   -- no id and no pair twice in a sender's latest message
   pub distinct : (e : Bytes) → apart sameIdOrPair (seriesOfLatest (latest e messages)) ≡ true
+  -- and its series and quantities within their range
+  pub within : (e : Bytes) → Within (seriesOfLatest (latest e messages))
 
 -- what is held is what was last sent, in the words of the plain rule
 pub held-plain : (book : Bytes) (ms : List Bytes) → Invariant book ms → (e p : Bytes) → held (used book) e p ≡ plainHeld ms e p
@@ -104,7 +120,8 @@ invariant-accepted book ms m a v = record {
   plain = λ e.
       ap (λ us. Option·map nets (find (isSenderBlockOf e) us)) (used-accepted book m a) ∙ nets-after book m a e
       ∙ ap (cond (same (sender (headOf m)) e) (some (netsOf e (seriesOf m)))) (v .plain e) ∙ sym (plain-nets-more ms m e);
-  distinct = distinct-more ms m (a .distinct-all) (v .distinct);
+  distinct = sent-more (λ l. apart sameIdOrPair l ≡ true) ms m (a .distinct-all) (v .distinct);
+  within = sent-more Within ms m (within-sent book m a) (v .within);
 }
 
 pub invariant-opened : (book : Bytes) (o : Opening) → openNumber book o ≡ 0 → Invariant (opened book o) []
@@ -120,6 +137,7 @@ invariant-opened book o e =
       kept-nets = rw (used-opened book o p) tt;
       plain = λ t. rw (used-opened book o p);
       distinct = λ t. refl;
+      within = λ t. record { few = omega arith; small = λ k h. tt };
     }
 
 invariant-moved : (book : Bytes) (ms : List Bytes) (minute : ℕ) → Moves book minute → Invariant book ms → Invariant (clockMoved book minute) ms
@@ -134,6 +152,7 @@ invariant-moved book ms minute m v =
       kept-nets = rw (used-moved book minute m) (v .kept-nets);
       plain = λ e. rw (used-moved book minute m) (v .plain e);
       distinct = v .distinct;
+      within = v .within;
     }
 
 -- ---- one call, accepted or refused

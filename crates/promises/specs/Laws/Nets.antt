@@ -6,13 +6,14 @@ use Rattle.laws.specs.Tests.{upto}
 use Rattle.laws.specs.Tests.Laws.{split, and-both, or-yes-left, or-yes-right, upto-no, upto-true, below-each}
 use Rattle.laws.specs.Lists.{same, total, All}
 use Rattle.laws.specs.Lists.Each.{all-imply}
-use Rattle.laws.specs.Lists.Count.{total-none, total-bound}
+use Rattle.laws.specs.Lists.Count.{total-none}
 use Rattle.laws.specs.Bytes.{part, value, little, number}
 use Rattle.laws.specs.Bytes.Laws.{part-all, part-append-left, part-append-right, little-length, value-little}
 use Rattle.paper.specs.Layout.{Bytes, Block, inParty, outParty, entry, quantity, withNets, net}
 use Rattle.paper.specs.Ranges.{netAllowed, netsAllowed}
 use Rattle.paper.specs.Nets.{bought, sold, netOf, netsTo, netsOf}
 use Rattle.facts.specs.Layout.{nets-with-nets, entry-nets, zeros-above, net-is-quantity}
+use Rattle.facts.specs.Nets.{bought-most, sold-most}
 
 pub nets-to-length : (e : Bytes) (l : List Block) (m : ℕ) → length (netsTo e l m) ≡ 4 * m
 unfolding netsTo
@@ -43,11 +44,15 @@ nets-to-entry e l (suc m) k h = elim (ℕ-discrete k m) [ yes i ↦ last i | no 
     front : k < m → value (part (4 * k) 4 (netsTo e l m)) ≡ netOf e l k → value (part (4 * k) 4 (netsTo e l m ++ little 4 (netOf e l m))) ≡ netOf e l k
     front t q = ap value (part-append-left (4 * k) 4 (netsTo e l m) (little 4 (netOf e l m)) (omega (arith, nets-to-length e l m))) ∙ q
 
+pub nets-entry : (e : Bytes) (l : List Block) (k : ℕ) → k < 100 → entry (netsOf e l) k ≡ netOf e l k
+unfolding netsOf entry
+nets-entry e l k h = nets-to-entry e l 100 k h
+
 -- the word in the block that they are written over
 net-with-nets : (e : Bytes) (l : List Block) (s : Block) → length s ≡ 512 → (k : ℕ) → k < 100 → net (withNets (netsOf e l) s) k ≡ netOf e l k
-unfolding netsOf entry net quantity
-net-with-nets e l s w k h = sym (entry-nets (withNets (netsTo e l 100) s) k h) ∙ ap (λ v. number 4 (4 * k) v)
-    (nets-with-nets (netsTo e l 100) s (nets-to-length e l 100) w) ∙ nets-to-entry e l 100 k h
+net-with-nets e l s w k h =
+    net-is-quantity (withNets (netsOf e l) s) k ∙ sym (entry-nets (withNets (netsOf e l) s) k h)
+    ∙ ap (λ v. entry v k) (nets-with-nets (netsOf e l) s (nets-of-length e l) w) ∙ nets-entry e l k h
 
 -- ---- their range
 
@@ -58,28 +63,17 @@ signed x y h f =
     (λ t. let q : 1999999800 < (4503599627370496 + x - y) % 4294967296 = upto-no _ _ t in or-yes-right _ _ (upto-true _ _ (omega arith)))
 
 -- a share is what is counted of a quantity: all of it or nothing
-share-small : (t : Bool) (q m : ℕ) → q ≤ m → cond t q 0 ≤ m
-share-small true q m h = h
-share-small false q m h = omega arith
-
 share-none : (t : Bool) (q : ℕ) → q ≡ 0 → cond t q 0 ≡ 0
 share-none true q e = e
 share-none false q e = refl
-
-shares-small : (p : Block → Bool) (k : ℕ) (l : List Block) → All (λ x. quantity x k ≤ 9999999) l → total (λ x. cond (p x) (quantity x k) 0) l ≤ 9999999 * length l
-shares-small p k l h = total-bound (λ x. cond (p x) (quantity x k) 0) 9999999 l (all-imply (λ x. quantity x k ≤ 9999999) (λ x. cond (p x) (quantity x k) 0 ≤ 9999999)
-    (λ x q. share-small (p x) _ _ q) l h)
 
 shares-none : (p : Block → Bool) (k : ℕ) (l : List Block) → All (λ x. quantity x k ≡ 0) l → total (λ x. cond (p x) (quantity x k) 0) l ≡ 0
 shares-none p k l h = total-none (λ x. cond (p x) (quantity x k) 0) l (all-imply (λ x. quantity x k ≡ 0) (λ x. cond (p x) (quantity x k) 0 ≡ 0)
     (λ x q. share-none (p x) _ q) l h)
 
 net-range : (e : Bytes) (l : List Block) (k : ℕ) → length l ≤ 200 → All (λ x. quantity x k ≤ 9999999) l → netAllowed (netOf e l k) ≡ true
-unfolding netOf bought sold
-net-range e l k n h =
-    let x = shares-small (λ x. same (inParty x) e) k l h in
-    let y = shares-small (λ x. same (outParty x) e) k l h in
-    signed _ _ (omega arith) (omega arith)
+unfolding netOf
+net-range e l k n h = signed _ _ (bought-most e l k n h) (sold-most e l k n h)
 
 net-none : (e : Bytes) (l : List Block) (k : ℕ) → All (λ x. quantity x k ≡ 0) l → netOf e l k ≡ 0
 unfolding netOf bought sold

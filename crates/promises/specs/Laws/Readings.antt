@@ -1,24 +1,28 @@
 -- What is read by sender and id is what the messages give: the series is the one that the sender's latest message has under the id, its mark is the plain rule's,
--- and a final is worked out from what each party last sent.
-use Rattle.laws.specs.Base.{_≡_, refl, sym, ap, _∙_, true, false, true≢false, Option, none, some, Option·getD, Option·map, List, [], _++_, ℕ, length}
+-- a net is the signed sum of its quantities, and a final is worked out from what each party last sent.
+use Rattle.laws.specs.Base.{_≡_, refl, sym, ap, _∙_, true, false, true≢false, Option, none, some, Option·getD, Option·map, List, [], _++_, ℕ, _<_, length}
 use Rattle.laws.specs.Tests.Laws.{and-left}
 use Rattle.laws.specs.Lists.{find, place, nth, keep, All}
 use Rattle.laws.specs.Lists.Each.{all-keep, all-kept}
 use Rattle.laws.specs.Lists.Search.{find-passes, find-keep-and, nth-place}
 use Rattle.laws.specs.Lists.Apart.{apart-keep}
-use Rattle.paper.specs.Layout.{Bytes, Block, sendersSlot, pair, mark, partner}
-use Rattle.paper.specs.Book.{dayBlock, used, isSeries, idIs, pairIs, slotOf, isSeriesOf, isSeriesOfPair, ownSeries}
+use Rattle.paper.specs.Layout.{Bytes, Block, nets, net, sendersSlot, pair, mark, partner, entry}
+use Rattle.paper.specs.Book.{dayBlock, used, isSeries, idIs, pairIs, isSenderBlockOf, slotOf, isSeriesOf, isSeriesOfPair, ownSeries}
 use Rattle.paper.specs.Sound.{sameSeries}
+use Rattle.paper.specs.Message.{seriesOf}
+use Rattle.paper.specs.Nets.{bought, sold, netOf, netsOf}
 use Rattle.paper.specs.Finals.{finalIn, final}
 use Rattle.paper.specs.Readings.{isStoredAs, storedAs, markFound, markAnswer, acceptedBlock}
-use Rattle.paper.specs.PlainRule.{latest, seriesOfLatest, otherParty}
-use Rattle.facts.specs.Layout.{mark-state, mark-first, mark-partner}
+use Rattle.paper.specs.PlainRule.{latest, seriesOfLatest, otherParty, plainNets}
+use Rattle.facts.specs.Layout.{mark-state, mark-first, mark-partner, net-is-quantity, entry-nets}
 use Rattle.facts.specs.Book.{series-of-series, series-of-slot, used-lengths}
 use Rattle.facts.specs.Sound.{is-sound}
 use Rattle.facts.specs.Verdict.{sameIdOrPair, series-lengths}
+use Rattle.facts.specs.Nets.{SignedSum, net-signed}
 use Rattle.facts.specs.Pairs.{viewFound}
 use Rattle.promises.specs.Laws.SoundApart.{same-series-yes}
-use Rattle.promises.specs.Laws.Invariant.{Invariant, held-plain}
+use Rattle.promises.specs.Laws.Invariant.{Within, Invariant, held-plain}
+use Rattle.promises.specs.Laws.Nets.{nets-entry}
 use Rattle.promises.specs.Laws.ById.{apart-less, own-viewed, Row, other-has, by-id}
 use Rattle.promises.specs.Laws.PlainMarks.{mark-plain, partner-found}
 use Rattle.promises.specs.Words.{content, plainStoredAs, markGiven, plainMarkFound, plainMarkAnswer, plainFinal}
@@ -128,6 +132,21 @@ module _ (book : Bytes) (ms : List Bytes) (v : Invariant book ms) where
         let x : Block = q .0 in
         let g : storedAs us e id ≡ some x = sym (own-by-id e id) ∙ q .1 in
         rw (answered, g, q .3) (partner-found book ms v (slot x g) x (there x g) (series x g) e (whose x g))
+
+  -- ---- nets
+
+  pub net-reading : (e : Bytes) (s : Block) → find (isSenderBlockOf e) (used book) ≡ some s → (k : ℕ) → k < 100
+      → SignedSum (net s k) (bought e (seriesOfLatest (latest e ms)) k) (sold e (seriesOfLatest (latest e ms)) k)
+  unfolding plainNets seriesOfLatest
+  net-reading e s f k h = by (latest e ms) (v .within e) (sym (ap (Option·map nets) f) ∙ v .plain e)
+    where
+      by : (o : Option Bytes) → Within (seriesOfLatest o) → some (nets s) ≡ Option·map (λ m. netsOf e (seriesOf m)) o
+          → SignedSum (net s k) (bought e (seriesOfLatest o) k) (sold e (seriesOfLatest o) k)
+      by none w q = let z : true ≡ false = cc in absurd (true≢false z)
+      by (some m) w q =
+          let i : nets s ≡ netsOf e (seriesOf m) = cc in
+          let j : net s k ≡ netOf e (seriesOf m) k = net-is-quantity s k ∙ sym (entry-nets s k h) ∙ ap (λ l. entry l k) i ∙ nets-entry e (seriesOf m) k h in
+          rw j (net-signed e (seriesOf m) k (w .few) (w .small k h))
 
   -- ---- finals
 
