@@ -1,6 +1,6 @@
 -- THE PAGE OF PROMISES. Each promise is stated in the words of `paper`, with a few more that stand in Words; each proof is one line that cites the file that carries
 -- the weight.
-use Rattle.laws.specs.Base.{_≡_, true, false, some, Option·map, List, _∷_, ℕ, _+_, _*_, _≤_, _<_, length, drop}
+use Rattle.laws.specs.Base.{_≡_, true, false, none, some, Option·getD, Option·map, List, [], _∷_, ℕ, _+_, _*_, _≤_, _<_, length, drop}
 use Rattle.laws.specs.Lists.{find, nth, All}
 use Rattle.laws.specs.Bytes.{little}
 use Rattle.paper.specs.Layout.{Bytes, Block, sender, nets, net, sendersSlot, pair, mark, partner, quantities, quantity}
@@ -13,6 +13,7 @@ use Rattle.paper.specs.Nets.{bought, sold, netOf}
 use Rattle.paper.specs.Acceptance.{accepted, submitted}
 use Rattle.paper.specs.PlainRun.{plainRun}
 use Rattle.paper.specs.Finals.{held, final}
+use Rattle.paper.specs.Readings.{markAnswer, acceptedBlock}
 use Rattle.paper.specs.Opening.{Opening, openNumber, opened}
 use Rattle.paper.specs.Clock.{clockAnswer, clockMoved}
 use Rattle.paper.specs.PlainRule.{latest, seriesOfLatest, plainHeld, otherParty, plainMark, plainNets}
@@ -26,10 +27,10 @@ use Rattle.promises.specs.Laws.Isolation.{verdict-isolated, determined}
 use Rattle.promises.specs.Laws.Others.{others-kept, rest-kept}
 use Rattle.promises.specs.Laws.PlainMarks.{sender-named, mark-plain, partner-plain, says-yes}
 use Rattle.promises.specs.Laws.ReadBack.{day-block-accepted}
-use Rattle.promises.specs.Laws.Readings.{net-reading}
 use Rattle.promises.specs.Laws.Refusals.{opening-refused, clock-refused, submission-refused}
 use Rattle.promises.specs.Laws.Soundness.{opened-sound, moved-sound, submitted-sound}
-use Rattle.promises.specs.Words.{content, headContent, ButMark, begun, reached, Unopened, finalGiven, plainContent, plainHeadContent, isCounterpartOf, Determines}
+use Rattle.promises.specs.Kept.{sound-book, accepted-block-as-sent, no-accepted-block, mark-as-ruled, partner-as-ruled, net-as-summed, final-as-sent}
+use Rattle.promises.specs.Words.{content, headContent, ButMark, begun, reached, Unopened, finalGiven, plainContent, plainHeadContent, plainStoredAs, plainMarkAnswer, plainFinal, isCounterpartOf, Determines}
 
 -- ---- 1. Soundness is kept, and a refusal changes nothing
 
@@ -54,13 +55,17 @@ refused-submission-changes-nothing = submission-refused
 -- ---- 2. Demand 3, marks and nets
 -- For every buffer, every accepted opening o and every sequence of calls after it: openings, clock moves, submissions and readings, accepted or refused, in any
 -- order, with any contents.
--- `book` is the book after them and `messages` are those accepted since the last opening, oldest first. The plain rule reads these messages and nothing of the book.
+-- `book` is the book after them and `messages` are those accepted since the last opening, oldest first. The plain rule reads these messages and nothing of the
+-- book. What one call keeps of this stands in Kept, for promises on calls to cite.
 
 module _ (buffer : Bytes) (o : Opening) (accepted-opening : openNumber buffer o ≡ 0) (calls : List Call) where
   open Desk (reached buffer o calls) using (book, messages)
 
   holds : Invariant ((reached buffer o calls) .book) ((reached buffer o calls) .messages)
   holds = invariant-run (begun buffer o) calls (invariant-opened buffer o accepted-opening)
+
+  pub reached-book-is-sound : sound book ≡ true
+  reached-book-is-sound = sound-book _ _ holds
 
   -- the stored series are those of each sender's latest accepted message: under every sender e and pair p the book has a series exactly where that message has
   -- one, with the same bytes but for sender's slot, mark and check, and so with the same quantities
@@ -98,7 +103,28 @@ module _ (buffer : Bytes) (o : Opening) (accepted-opening : openNumber buffer o 
   -- and at each position, k + 1, a sender's net is the signed sum of the quantities that it last sent
   pub kept-nets-are-signed-sums : (e : Bytes) (s : Block) → find (isSenderBlockOf e) (used book) ≡ some s → (k : ℕ) → k < 100
       → SignedSum (net s k) (bought e (seriesOfLatest (latest e messages)) k) (sold e (seriesOfLatest (latest e messages)) k)
-  kept-nets-are-signed-sums = net-reading _ _ holds
+  kept-nets-are-signed-sums = net-as-summed _ _ holds
+
+  -- and so are the readings by sender and id: the accepted block is the series that the sender's latest message has under the id, sender's slot, mark and check
+  -- apart, the empty part where it has none
+  pub accepted-blocks-are-the-latest-messages : (e id : Bytes) → content (acceptedBlock book e id) ≡ content (Option·getD (plainStoredAs messages e id) [])
+  accepted-blocks-are-the-latest-messages = accepted-block-as-sent _ _ holds
+
+  pub no-accepted-block-without-a-series : (e id : Bytes) → plainStoredAs messages e id ≡ none → acceptedBlock book e id ≡ []
+  no-accepted-block-without-a-series = no-accepted-block _ _ holds
+
+  -- the mark is the plain rule's, which is told the slot that the answer names; 23 where the message has no such series
+  pub mark-answers-are-the-plain-rules : (e id : Bytes) → markAnswer book e id ≡ plainMarkAnswer messages e id ((markAnswer book e id) .partner .0)
+  mark-answers-are-the-plain-rules = mark-as-ruled _ _ holds
+
+  -- and that slot holds the series of the other party with the same pair; it is 0, which no slot is, where there is none
+  pub partners-answered-are-the-plain-rules : (e id : Bytes) (y : Block) → plainStoredAs messages e id ≡ some y
+      → nth (used book) ((markAnswer book e id) .partner .0) ≡ find (isSeriesOfPair (slotOf (used book) (otherParty e (pair y))) (pair y)) (used book)
+  partners-answered-are-the-plain-rules = partner-as-ruled _ _ holds
+
+  -- a final is worked out from what each party last sent
+  pub finals-are-the-latest-messages : (seller buyer : Bytes) (p : ℕ) → final book seller buyer p ≡ plainFinal (dayBlock book) messages seller buyer p
+  finals-are-the-latest-messages = final-as-sent _ _ holds
 
   -- ---- 3. Demand 3, finals: a final value v once given for a pair and a position p is given unchanged after any further calls, until the book is opened again
 
