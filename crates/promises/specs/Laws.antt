@@ -24,4 +24,5 @@ pub mod PlainMarks
 pub mod Readings
 pub mod Finals
 -- isolation, determinacy
+pub mod Contents
 pub mod Isolation

@@ -30,7 +30,7 @@ use Rattle.promises.specs.Laws.ReadBack.{day-block-accepted}
 use Rattle.promises.specs.Laws.Refusals.{opening-refused, clock-refused, submission-refused}
 use Rattle.promises.specs.Laws.Soundness.{opened-sound, moved-sound, submitted-sound}
 use Rattle.promises.specs.Kept.{sound-book, accepted-block-as-sent, no-accepted-block, mark-as-ruled, partner-as-ruled, net-as-summed, final-as-sent}
-use Rattle.promises.specs.Words.{content, headContent, ButMark, begun, reached, Unopened, finalGiven, plainContent, plainHeadContent, plainStoredAs, plainMarkAnswer, plainFinal, isCounterpartOf, Determines}
+use Rattle.promises.specs.Words.{content, SameContents, headContent, ButMark, begun, reached, Unopened, finalGiven, plainContent, plainHeadContent, plainStoredAs, plainMarkAnswer, plainFinal, isCounterpartOf, Determines}
 
 -- ---- 1. Soundness is kept, and a refusal changes nothing
 
@@ -137,11 +137,13 @@ module _ (buffer : Bytes) (o : Opening) (accepted-opening : openNumber buffer o 
   pub plain-run-says-yes : plainRun book ≡ record { number = 0; holds = true }
   plain-run-says-yes = says-yes _ _ holds
 
--- ---- 5. Isolation: two sound books that agree in the day block, in the sender's own stored blocks and in the number of free slots give one answer to one message
+-- ---- 5. Isolation: two sound books give one answer to one message if they agree in the day block, in the number of free slots and in what is stored of the
+-- message's sender: its sender block but for nets and check, and the contents of its series (all bytes but sender's slot, mark and check), in whatever order.
+-- Of a sender that is not stored the sender block is the empty block, and there are no series
 
 pub answers-are-isolated : (book other message : Bytes) → sound book ≡ true → sound other ≡ true → dayBlock book ≡ dayBlock other
-    → ownSender (used book) (sender (headOf message)) ≡ ownSender (used other) (sender (headOf message))
-    → ownSeries (used book) (sender (headOf message)) ≡ ownSeries (used other) (sender (headOf message))
+    → headContent (ownSender (used book) (sender (headOf message))) ≡ headContent (ownSender (used other) (sender (headOf message)))
+    → SameContents (ownSeries (used book) (sender (headOf message))) (ownSeries (used other) (sender (headOf message)))
     → freeSlots book ≡ freeSlots other → verdict book message ≡ verdict other message
 answers-are-isolated = verdict-isolated
 

@@ -2,7 +2,7 @@
 -- again, what keeps finals, the readings in terms of the accepted messages, and a promise that determines what it promises.
 use Rattle.laws.specs.Base.{_≡_, Bool, true, cond, Option, none, some, Option·map, List, [], _∷_, _++_, ℕ, _+_, _-_, _≤_, _<_}
 use Rattle.laws.specs.Tests.{_and_, _or_, neg, is, less}
-use Rattle.laws.specs.Lists.{find, has}
+use Rattle.laws.specs.Lists.{same, find, has}
 use Rattle.laws.specs.Bytes.{part, number}
 use Rattle.paper.specs.declared.MarkAnswer.{MarkAnswer}
 use Rattle.paper.specs.declared.FinalAnswer.{FinalAnswer}
@@ -20,6 +20,14 @@ use Rattle.paper.specs.Calls.{Call, Desk, step, run, clockMove, submission, rea
 -- the bytes of a series but sender's slot, mark and check
 unfoldable pub content : Block → Bytes
 content x = part 0 6 x ++ part 8 96 x ++ part 108 400 x
+
+-- c is the content of the series x
+unfoldable pub contentIs : Bytes → Block → Bool
+contentIs c x = same (content x) c
+
+-- two lists of series have the same contents, in whatever order: any bytes c are the content of a series in own exactly if they are that of one in other
+abbrev pub SameContents : List Block → List Block → Type 0
+SameContents own other = (c : Bytes) → has (contentIs c) own ≡ has (contentIs c) other
 
 -- the bytes of a sender block but nets and check
 unfoldable pub headContent : Block → Bytes

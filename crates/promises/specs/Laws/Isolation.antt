@@ -1,19 +1,133 @@
 -- Past rule 1 the verdict is worked out from the day block, the sender's own stored blocks, the number of free slots and the message, and takes nothing else as
--- an argument.
-use Rattle.laws.specs.Base.{_≡_, sym, _∙_, true}
-use Rattle.paper.specs.Layout.{Bytes, sender}
-use Rattle.paper.specs.Book.{dayBlock, used, freeSlots, ownSender, ownSeries}
+-- an argument. Of the sender block the rules read kind, id and version; of the series id, pair, version and quantities, whatever their order.
+use Rattle.laws.specs.Base.{_≡_, refl, sym, _∙_, true, List, [], _∷_, _++_, ℕ, _+_, arith}
+use Rattle.laws.specs.Lists.Each.{all-each}
+use Rattle.laws.specs.Lists.Count.{count-agree}
+use Rattle.laws.specs.Bytes.{number}
+use Rattle.laws.specs.Order.Laws.{along-agree}
+use Rattle.paper.specs.Layout.{Bytes, Block, kind, version, idOf, sender, pair, quantities}
+use Rattle.paper.specs.Book.{dayBlock, used, freeSlots, isSender, isSeries, idIs, ownSender, ownSeries}
 use Rattle.paper.specs.Sound.{sound}
-use Rattle.paper.specs.Message.{headOf}
-use Rattle.paper.specs.Rules.{rule1, verdict}
-use Rattle.promises.specs.Words.{Determines}
+use Rattle.paper.specs.Message.{headOf, seriesOf}
+use Rattle.paper.specs.Rules.{fine, numberOf, overPositions, rule1, idOrVersionBroken, rule6, withOtherPair, withOtherId, rule7, rule14, seriesVersion, rule15, absent, rule16, isNew, newBlocks, rule17, headVerdict, formVerdict, closedVerdict, valuesVerdict, seriesVerdict, eachSeries, lastVerdict, judge, verdict}
+use Rattle.facts.specs.Layout.{Alike, alike-version, alike-id, alike-quantity}
+use Rattle.facts.specs.Sound.{sound-says}
+use Rattle.promises.specs.Laws.Contents.{parts-agree, alike-pair, OfOneSender, own-of-one-sender, ReadsContents, pair-reads, has-contents, stored-contents}
+use Rattle.promises.specs.Words.{headContent, SameContents, Determines}
+
+-- ---- the sender block: kind, id, version
+
+module _ (known knownThere : Block) (e : headContent known ≡ headContent knownThere) where
+  is-sender-by-content : isSender known ≡ isSender knownThere
+  unfolding headContent isSender kind number
+  is-sender-by-content = rw (parts-agree 0 108 0 1 known knownThere (omega arith) (omega arith) e)
+
+  rule6-by-content : (head : Block) → rule6 known head ≡ rule6 knownThere head
+  unfolding headContent rule6 idOrVersionBroken idOf version number
+  rule6-by-content head =
+      rw (
+        is-sender-by-content,
+        parts-agree 0 108 8 16 known knownThere (omega arith) (omega arith) e,
+        parts-agree 0 108 2 2 known knownThere (omega arith) (omega arith) e,
+      )
+
+  head-by-content : (day head : Block) → headVerdict day known head ≡ headVerdict day knownThere head
+  unfolding headVerdict
+  head-by-content day head = rw (rule6-by-content head)
+
+-- ---- what is stored of a series: kind, version, quantities
+
+module _ (x z : Block) (a : Alike x z) where
+  is-series-by-content : isSeries x ≡ isSeries z
+  unfolding isSeries kind number
+  is-series-by-content = rw (a .front 0 1 (omega arith))
+
+  quantities-by-content : quantities x ≡ quantities z
+  unfolding quantities
+  quantities-by-content = a .back 108 400 (omega arith) (omega arith)
+
+  values-by-content : (day head : Block) (number : ℕ) (y : Block) → valuesVerdict day x head number y ≡ valuesVerdict day z head number y
+  unfolding valuesVerdict overPositions closedVerdict rule14 rule15 seriesVersion
+  values-by-content day head number y =
+      rw (
+        along-agree numberOf fine (closedVerdict day x number y) (closedVerdict day z number y) 100 0 (λ k low high. rw (alike-quantity x z a k (omega arith))),
+        is-series-by-content,
+        quantities-by-content,
+        alike-version x z a,
+      )
+
+-- ---- the sender's series
+
+id-reads : (id : Bytes) → ReadsContents (idIs id)
+unfolding idIs
+id-reads id x y a = rw (alike-id x y a)
+
+other-pair-reads : (y : Block) → ReadsContents (withOtherPair y)
+unfolding withOtherPair
+other-pair-reads y x z a = rw (id-reads (idOf y) x z a, pair-reads (pair y) x z a)
+
+other-id-reads : (y : Block) → ReadsContents (withOtherId y)
+unfolding withOtherId
+other-id-reads y x z a = rw (id-reads (idOf y) x z a, pair-reads (pair y) x z a)
+
+absent-reads : (series : List Block) → ReadsContents (absent series)
+unfolding absent
+absent-reads series x z a = rw (alike-pair x z a)
+
+module _ (own ownThere : List Block) (a : OfOneSender own) (b : OfOneSender ownThere) (s : SameContents own ownThere) where
+  series-by-content : (day head : Block) (seen : List Block) (number : ℕ) (y : Block)
+      → seriesVerdict day own head seen number y ≡ seriesVerdict day ownThere head seen number y
+  unfolding seriesVerdict formVerdict rule7
+  series-by-content day head seen number y =
+      rw (
+        has-contents own ownThere a b s _ (other-pair-reads y),
+        has-contents own ownThere a b s _ (other-id-reads y),
+        values-by-content _ _ (stored-contents own ownThere a b s y) day head number y,
+      )
+
+  each-by-content : (day head : Block) (seen : List Block) (number : ℕ) (ys : List Block)
+      → eachSeries day own head seen number ys ≡ eachSeries day ownThere head seen number ys
+  unfolding eachSeries
+  each-by-content day head seen number [] = refl
+  each-by-content day head seen number (y ∷ ys) = rw (series-by-content day head seen number y, each-by-content day head (seen ++ y ∷ []) (number + 1) ys)
+
+  new-by-content : (y : Block) → isNew own y ≡ isNew ownThere y
+  unfolding isNew
+  new-by-content y = rw (has-contents own ownThere a b s _ (pair-reads (pair y)))
+
+  -- ---- the verdict, in another book
+
+  module _ (known knownThere : Block) (e : headContent known ≡ headContent knownThere) where
+    last-by-content : (free freeThere : ℕ) → free ≡ freeThere → (series : List Block)
+        → lastVerdict known own free series ≡ lastVerdict knownThere ownThere freeThere series
+    unfolding lastVerdict rule16 rule17 newBlocks
+    last-by-content free freeThere f series =
+        rw (
+          f,
+          has-contents own ownThere a b s _ (absent-reads series),
+          is-sender-by-content known knownThere e,
+          count-agree (isNew own) (isNew ownThere) series (all-each (λ y. isNew own y ≡ isNew ownThere y) new-by-content series),
+        )
+
+    judge-by-content : (free freeThere : ℕ) → free ≡ freeThere → (day head : Block) (series : List Block)
+        → judge day known own free head series ≡ judge day knownThere ownThere freeThere head series
+    unfolding judge
+    judge-by-content free freeThere f day head series =
+        rw (head-by-content known knownThere e day head, each-by-content day head [] 1 series, last-by-content free freeThere f series)
 
 pub verdict-isolated : (book other message : Bytes) → sound book ≡ true → sound other ≡ true → dayBlock book ≡ dayBlock other
-    → ownSender (used book) (sender (headOf message)) ≡ ownSender (used other) (sender (headOf message))
-    → ownSeries (used book) (sender (headOf message)) ≡ ownSeries (used other) (sender (headOf message))
+    → headContent (ownSender (used book) (sender (headOf message))) ≡ headContent (ownSender (used other) (sender (headOf message)))
+    → SameContents (ownSeries (used book) (sender (headOf message))) (ownSeries (used other) (sender (headOf message)))
     → freeSlots book ≡ freeSlots other → verdict book message ≡ verdict other message
 unfolding verdict rule1
-verdict-isolated book other message s t d o q f = rw (s, t, d, o, q, f)
+verdict-isolated book other message s t d h c f =
+    rw (
+      s,
+      t,
+      d,
+      judge-by-content _ _ (own-of-one-sender book (sound-says book s) _) (own-of-one-sender other (sound-says other t) _) c _ _ h (freeSlots book) (freeSlots other) f
+          (dayBlock other) (headOf message) (seriesOf message),
+    )
 
 -- an outcome that is a function of the inputs is one
 pub determined : {I A : Type 0} (answer : I → A) (bytes : I → Bytes) → Determines {I = I} {A = A} (λ i r x. (r ≡ answer i) × (x ≡ bytes i))
