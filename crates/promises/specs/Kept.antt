@@ -1,6 +1,6 @@
--- DEMAND 3, CALL BY CALL: what a promise on one call can cite. An accepted opening begins `Invariant book messages`, every other call keeps it, whatever it
--- answers, and what is read of a book that has it is what the accepted messages give. `Later before after` is what keeps finals. Each proof is one line, as on
--- the page of promises.
+-- DEMAND 3, CALL BY CALL: what a promise on one call can cite. An accepted opening begins `Invariant book messages` (a record of Laws/Invariant), every call keeps
+-- it, whatever it answers, and what is read of a book that has it is what the accepted messages give. `Later before after` (a record of Words) is what keeps finals.
+-- Each proof is one line, as on the page of promises.
 use Rattle.laws.specs.Base.{_≡_, true, cond, none, some, Option·getD, Option·map, List, [], ℕ, _<_}
 use Rattle.laws.specs.Tests.{is}
 use Rattle.laws.specs.Lists.{find, nth}

@@ -82,15 +82,17 @@ within-sent book m a = record {
 
 pub record Invariant (book : Bytes) (messages : List Bytes) : Type 0 where
   pub good : Sound book
+  -- under every sender and pair the book has the quantities, and the content, of the series that the sender's latest message has
   pub stored : (e p : Bytes) → viewHeld quantities (used book) e p ≡ viewFound quantities (pairIs p) (seriesOfLatest (latest e messages))
   pub contents : (e p : Bytes) → viewHeld content (used book) e p ≡ viewFound content (pairIs p) (seriesOfLatest (latest e messages))
+  -- each sender block is the first block of that message, nets and check apart
   pub heads : (e : Bytes) → Option·map headContent (find (isSenderBlockOf e) (used book)) ≡ plainHeadContent messages e
+  -- the marks are true, and the nets, by the book and by the messages
   pub marks : MarksTrue (nOf (dayBlock book)) (used book)
   pub kept-nets : NetsTrue (used book)
   pub plain : (e : Bytes) → Option·map nets (find (isSenderBlockOf e) (used book)) ≡ plainNets messages e
-  -- no id and no pair twice in a sender's latest message
+  -- no id and no pair stands twice in a sender's latest message, and its series and quantities are within their range
   pub distinct : (e : Bytes) → apart sameIdOrPair (seriesOfLatest (latest e messages)) ≡ true
-  -- and its series and quantities within their range
   pub within : (e : Bytes) → Within (seriesOfLatest (latest e messages))
 
 -- what is held is what was last sent, in the words of the plain rule
