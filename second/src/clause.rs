@@ -1,25 +1,33 @@
-//! Lists of single clauses.
+//! Lists of single clauses, and of single cases.
 //!
 //! A rule of the paper is often several conditions joined by "or". For the histogram each of
 //! them is told apart, so every list of clauses is an enum whose order is the order in which the
 //! paper names them. A set of broken clauses is a 64-bit number; its lowest bit is the first
-//! broken clause.
+//! broken clause. A list of cases is the same without the sets: what the generator makes on purpose.
 
-macro_rules! clauses {
+macro_rules! cases {
     ($(#[$note:meta])* $name:ident { $($variant:ident $text:literal,)* }) => {
         $(#[$note])*
         #[derive(Clone, Copy, Debug, PartialEq, Eq)]
         pub enum $name { $($variant),* }
 
         impl $name {
-            /// Every clause, in the paper's order.
+            /// All of them, in their order.
             pub const ALL: &'static [$name] = &[$($name::$variant),*];
 
             /// A few words for the histogram.
             pub fn text(self) -> &'static str {
                 match self { $($name::$variant => $text),* }
             }
+        }
+    };
+}
 
+macro_rules! clauses {
+    ($(#[$note:meta])* $name:ident { $($variant:ident $text:literal,)* }) => {
+        $crate::clause::cases! { $(#[$note])* $name { $($variant $text,)* } }
+
+        impl $name {
             /// The clause's place in a set of clauses.
             pub fn bit(self) -> u64 {
                 1 << (self as u32)
@@ -33,4 +41,4 @@ macro_rules! clauses {
     };
 }
 
-pub(crate) use clauses;
+pub(crate) use {cases, clauses};

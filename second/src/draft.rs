@@ -4,6 +4,7 @@
 use std::collections::HashMap;
 
 use crate::block::*;
+use crate::clause::cases;
 use crate::counts::{Minute, Position};
 use crate::names;
 use crate::random::Random;
@@ -35,8 +36,15 @@ pub struct Growth {
     pub new: New,
     /// How many stored series in a hundred are changed.
     pub changed: usize,
-    /// All new series are bought, at the highest quantity: this drives the net to its limit.
-    pub one_sided: bool,
+    /// All new series stand on this side, at the highest quantity: this drives the net to its limit.
+    pub side: Option<Side>,
+}
+
+/// The side of a trade that the sender takes.
+#[derive(Clone, Copy, Debug, PartialEq, Eq)]
+pub enum Side {
+    Buys,
+    Sells,
 }
 
 impl Draft {
@@ -46,7 +54,7 @@ impl Draft {
         let list: Vec<&Block> = blocks(book).collect();
         let nothing = [0; BLOCK_BYTES];
         let day = list.first().copied().unwrap_or(&nothing);
-        let n = u16::from(day[N]).clamp(1, POSITIONS as u16);
+        let n = u16::from(day[N]).clamp(2, POSITIONS as u16);
         let (clock, lead) = (Minute(u16_at(day, CLOCK)), u16_at(day, LEAD));
         let first_open = (1..=n).find(|&p| Position(p).is_open(clock, lead)).unwrap_or(n + 1);
         let slot = (1..list.len()).find(|&slot| list[slot][KIND] == KIND_SENDER && field(list[slot], SENDER) == sender);
@@ -106,8 +114,8 @@ impl Draft {
             New::Filling(more) => (draft.free_slots + more).saturating_sub(usize::from(slot.is_none())).max(fewest),
         };
         for _ in 0..new {
-            if growth.one_sided {
-                draft.add_purchase(random, partners);
+            if let Some(side) = growth.side {
+                draft.add_at_limit(random, side, partners);
                 continue;
             }
             let wanted = if !unanswered.is_empty() && random.percent(80) {
@@ -189,17 +197,43 @@ impl Draft {
         self.blocks.push(series);
     }
 
-    /// Adds a new series that buys the highest quantity wherever that is still open.
-    fn add_purchase(&mut self, random: &mut Random, partners: &[Field]) {
-        let free = |other: &&Field| **other != self.sender && !self.has_pair(&(self.sender, **other));
+    /// Adds a new series with the highest quantity wherever that is still open.
+    fn add_at_limit(&mut self, random: &mut Random, side: Side, partners: &[Field]) {
+        let parties = |other: Field| match side {
+            Side::Buys => (self.sender, other),
+            Side::Sells => (other, self.sender),
+        };
+        let free = |other: &&Field| **other != self.sender && !self.has_pair(&parties(**other));
         let other = partners.iter().find(free).copied().unwrap_or_else(|| names::valid_eic(random));
-        let before = self.blocks.len();
-        self.add_series(random, Some((self.sender, other)), partners, &HashMap::new());
+        let (wanted, before) = (parties(other), self.blocks.len());
+        self.add_series(random, Some(wanted), partners, &HashMap::new());
         if let Some(series) = self.blocks.get_mut(before) {
             for position in self.first_open..=self.n {
                 put_quantity(series, Position(position), HIGHEST_QUANTITY);
             }
         }
+    }
+
+    /// Takes a few open quantities down from the highest by one, or up to it again. A net that was at
+    /// its limit so comes next to it, or back.
+    pub fn move_about_limit(&mut self, random: &mut Random) {
+        if self.first_open > self.n {
+            return;
+        }
+        let version = self.version();
+        for _ in 0..random.between(1, 3) {
+            let position = Position(random.between(usize::from(self.first_open), usize::from(self.n)) as u16);
+            let place = self.any_place(random);
+            let series = &mut self.blocks[place];
+            let lower = quantity(series, position) == HIGHEST_QUANTITY;
+            put_quantity(series, position, HIGHEST_QUANTITY - u32::from(lower));
+            put_u16(series, VERSION, version);
+        }
+    }
+
+    /// The place of some series.
+    pub fn any_place(&self, random: &mut Random) -> usize {
+        random.between(1, self.blocks.len() - 1)
     }
 
     /// The place of a series that the book does not hold; one is added if need be.
@@ -269,277 +303,369 @@ fn change(random: &mut Random, series: &mut Block, other: Option<&Block>, first_
     }
 }
 
-/// Ways to spoil what a message says: rules 3 to 17.
-#[derive(Clone, Copy, Debug, PartialEq, Eq)]
-pub enum Fault {
-    Receiver,
-    SenderEic,
-    Day,
-    DayText,
-    EveryN,
-    MessageId,
-    OtherMessageId,
-    VersionSame,
-    VersionSkips,
-    VersionOdd,
-    SeriesId,
-    IdTwice,
-    IdSwapped,
-    IdOtherPair,
-    PairTwice,
-    PairRenamed,
-    InParty,
-    OutParty,
-    EqualParties,
-    Strangers,
-    InArea,
-    OutArea,
-    BusinessType,
-    ContractType,
-    Agreement,
-    TopBit,
-    TooHigh,
-    AboveN,
-    ClosedChanged,
-    ClosedNew,
-    SeriesVersionRaised,
-    SeriesVersionKept,
-    SeriesVersionOdd,
-    Absent,
-    NoRoom,
+cases! {
+    /// Ways to spoil what a message says, in the order of the rules 3 to 17.
+    Fault {
+        Receiver "receiver",
+        SenderEic "sender's EIC",
+        Day "day",
+        DayText "day that is no day",
+        EveryN "n",
+        MessageId "message id malformed",
+        OtherMessageId "other message id",
+        VersionSame "version as kept",
+        VersionSkips "version skips one",
+        VersionOdd "odd version",
+        SeriesId "series id malformed",
+        IdTwice "series id twice",
+        IdSwapped "parties swapped",
+        IdOtherPair "other pair",
+        PairTwice "pair twice",
+        PairRenamed "pair renamed",
+        InParty "in party",
+        OutParty "out party",
+        EqualParties "equal parties",
+        Strangers "strangers",
+        InArea "in area",
+        OutArea "out area",
+        BusinessType "business type",
+        ContractType "contract type",
+        Agreement "capacity agreement",
+        TopBit "top bit",
+        TooHigh "too high",
+        AboveN "above n",
+        ClosedChanged "closed position changed",
+        ClosedNew "closed position of a new series",
+        SeriesVersionRaised "all series versions raised",
+        SeriesVersionKept "series version lowered",
+        SeriesVersionOdd "odd series version",
+        Absent "series absent",
+        NoRoom "no room",
+    }
 }
 
 impl Fault {
-    pub const ALL: &'static [Fault] = &[
-        Fault::Receiver,
-        Fault::SenderEic,
-        Fault::Day,
-        Fault::DayText,
-        Fault::EveryN,
-        Fault::MessageId,
-        Fault::OtherMessageId,
-        Fault::VersionSame,
-        Fault::VersionSkips,
-        Fault::VersionOdd,
-        Fault::SeriesId,
-        Fault::IdTwice,
-        Fault::IdSwapped,
-        Fault::IdOtherPair,
-        Fault::PairTwice,
-        Fault::PairRenamed,
-        Fault::InParty,
-        Fault::OutParty,
-        Fault::EqualParties,
-        Fault::Strangers,
-        Fault::InArea,
-        Fault::OutArea,
-        Fault::BusinessType,
-        Fault::ContractType,
-        Fault::Agreement,
-        Fault::TopBit,
-        Fault::TooHigh,
-        Fault::AboveN,
-        Fault::ClosedChanged,
-        Fault::ClosedNew,
-        Fault::SeriesVersionRaised,
-        Fault::SeriesVersionKept,
-        Fault::SeriesVersionOdd,
-        Fault::Absent,
-        Fault::NoRoom,
-    ];
+    /// The rule that the fault breaks, unless an earlier one is broken too.
+    pub fn rule(self) -> u8 {
+        use Fault::*;
+        match self {
+            Receiver => 3,
+            SenderEic => 4,
+            Day | DayText | EveryN => 5,
+            MessageId | OtherMessageId | VersionSame | VersionSkips | VersionOdd => 6,
+            SeriesId | IdTwice | IdSwapped | IdOtherPair | PairTwice | PairRenamed => 7,
+            InParty | OutParty | EqualParties | Strangers => 8,
+            InArea | OutArea => 9,
+            BusinessType | ContractType | Agreement => 10,
+            TopBit => 11,
+            TooHigh => 12,
+            AboveN => 13,
+            ClosedChanged | ClosedNew => 14,
+            SeriesVersionRaised | SeriesVersionKept | SeriesVersionOdd => 15,
+            Absent => 16,
+            NoRoom => 17,
+        }
+    }
+
+    /// Some fault that breaks this rule.
+    pub fn of_rule(random: &mut Random, rule: u8) -> Fault {
+        let list: Vec<Fault> = Fault::ALL.iter().copied().filter(|fault| fault.rule() == rule).collect();
+        random.pick(&list)
+    }
 }
 
 impl Draft {
-    /// Spoils the draft in one way. Where the draft lacks what the way needs, it stays lawful.
-    pub fn spoil(&mut self, random: &mut Random, fault: Fault, partners: &[Field]) {
-        let version = self.version();
-        let any = random.between(1, self.blocks.len() - 1);
-        let last_closed = self.first_open - 1;
-        match fault {
-            Fault::Receiver => {
-                let receiver = names::valid_eic(random);
-                put_field(&mut self.blocks[0], RECEIVER, &receiver);
+    /// Spoils the draft in one way, at this series where the way leaves the choice. Where the draft
+    /// lacks what the way needs, it stays lawful.
+    pub fn spoil(&mut self, random: &mut Random, fault: Fault, any: usize, partners: &[Field]) {
+        match fault.rule() {
+            3..=6 => self.spoil_head(random, fault),
+            7 => self.spoil_names(random, fault, any, partners),
+            8 => {
+                let place = self.new_series(random, partners);
+                self.spoil_parties(random, fault, place);
             }
-            Fault::SenderEic => put_field(&mut self.blocks[0], SENDER, &names::invalid_eic(random)),
+            9 | 10 => self.spoil_trade(random, fault, any),
+            11..=13 => self.spoil_quantity(random, fault, any),
+            14 if fault == Fault::ClosedNew => {
+                let place = self.new_series(random, partners);
+                self.change_closed(random, place);
+            }
+            14 => {
+                if let Some(place) = self.stored_series(random) {
+                    self.change_closed(random, place);
+                }
+            }
+            15 => self.spoil_series_version(random, fault, any),
+            _ => self.spoil_whole(random, fault, partners),
+        }
+    }
+
+    /// Rules 3 to 6.
+    fn spoil_head(&mut self, random: &mut Random, fault: Fault) {
+        let version = self.version();
+        let head = &mut self.blocks[0];
+        match fault {
+            Fault::Receiver => put_field(head, RECEIVER, &names::valid_eic(random)),
+            Fault::SenderEic => put_field(head, SENDER, &names::invalid_eic(random)),
             Fault::Day => {
                 let at = DAY_IN_SENDER + random.below(DAY_DIGITS);
-                self.blocks[0][at] = b'0' + (self.blocks[0][at].wrapping_sub(b'0').wrapping_add(1)) % 10;
+                head[at] = b'0' + (head[at].wrapping_sub(b'0').wrapping_add(1)) % 10;
             }
-            Fault::DayText => self.blocks[0][DAY_IN_SENDER + random.below(DAY_DIGITS)] = random.pick(b"A-\0 \xff"),
+            Fault::DayText => head[DAY_IN_SENDER + random.below(DAY_DIGITS)] = random.pick(b"A-\0 \xff"),
             Fault::EveryN => {
                 let other = random.pick(&[92, 96, 100, 0, 255]);
-                for block in self.blocks.iter_mut() {
-                    block[N] = other;
-                }
+                self.blocks.iter_mut().for_each(|block| block[N] = other);
             }
-            Fault::MessageId => put_field(&mut self.blocks[0], ID, &names::malformed_id(random)),
-            Fault::OtherMessageId => put_field(&mut self.blocks[0], ID, &names::id(random)),
-            Fault::VersionSame => put_u16(&mut self.blocks[0], VERSION, version.wrapping_sub(1)),
-            Fault::VersionSkips => put_u16(&mut self.blocks[0], VERSION, version.wrapping_add(1)),
-            Fault::VersionOdd => {
+            Fault::MessageId => put_field(head, ID, &names::malformed_id(random)),
+            Fault::OtherMessageId => put_field(head, ID, &names::id(random)),
+            Fault::VersionSame => put_u16(head, VERSION, version.wrapping_sub(1)),
+            Fault::VersionSkips => put_u16(head, VERSION, version.wrapping_add(1)),
+            _ => {
                 let odd = random.pick(&[0, 1, 2, 999, 1_000, 65_535, version.wrapping_add(256)]);
-                put_u16(&mut self.blocks[0], VERSION, odd);
+                put_u16(head, VERSION, odd);
             }
-            Fault::SeriesId => put_field(&mut self.blocks[any], ID, &names::malformed_id(random)),
-            Fault::IdTwice => {
-                if self.blocks.len() == 2 {
-                    self.add_series(random, None, partners, &HashMap::new());
-                }
-                let later = random.between(2.min(self.blocks.len() - 1), self.blocks.len() - 1);
-                let earlier = random.between(1, (later - 1).max(1));
-                let id = field(&self.blocks[earlier], ID);
-                put_field(&mut self.blocks[later], ID, &id);
+        }
+    }
+
+    /// Rule 7.
+    fn spoil_names(&mut self, random: &mut Random, fault: Fault, any: usize, partners: &[Field]) {
+        match (fault, self.stored_series(random)) {
+            (Fault::SeriesId, _) => put_field(&mut self.blocks[any], ID, &names::malformed_id(random)),
+            (Fault::IdTwice, _) => self.repeat_id(random, partners),
+            (Fault::PairTwice, _) => self.repeat_pair(random, partners),
+            (Fault::IdSwapped, Some(place)) => {
+                let (in_party, out_party) = pair(&self.blocks[place]);
+                put_field(&mut self.blocks[place], IN_PARTY, &out_party);
+                put_field(&mut self.blocks[place], OUT_PARTY, &in_party);
             }
-            Fault::IdSwapped => {
-                if let Some(place) = self.stored_series(random) {
-                    let (in_party, out_party) = pair(&self.blocks[place]);
-                    put_field(&mut self.blocks[place], IN_PARTY, &out_party);
-                    put_field(&mut self.blocks[place], OUT_PARTY, &in_party);
-                }
+            (Fault::IdOtherPair, Some(place)) => {
+                let at = random.pick(&[IN_PARTY, OUT_PARTY]);
+                let party = if random.percent(50) { names::valid_eic(random) } else { names::invalid_eic(random) };
+                put_field(&mut self.blocks[place], at, &party);
             }
-            Fault::IdOtherPair => {
-                if let Some(place) = self.stored_series(random) {
-                    let at = random.pick(&[IN_PARTY, OUT_PARTY]);
-                    let party = if random.percent(50) { names::valid_eic(random) } else { names::invalid_eic(random) };
-                    put_field(&mut self.blocks[place], at, &party);
-                }
+            (_, Some(place)) => {
+                let id = self.unused_id(random);
+                put_field(&mut self.blocks[place], ID, &id);
             }
-            Fault::PairTwice => {
-                self.add_series(random, None, partners, &HashMap::new());
-                let last = self.blocks.len() - 1;
-                if last > 1 && !self.is_stored(&self.blocks[last]) {
-                    let (in_party, out_party) = pair(&self.blocks[random.between(1, last - 1)]);
-                    put_field(&mut self.blocks[last], IN_PARTY, &in_party);
-                    put_field(&mut self.blocks[last], OUT_PARTY, &out_party);
-                }
-            }
-            Fault::PairRenamed => {
-                if let Some(place) = self.stored_series(random) {
-                    let id = self.unused_id(random);
-                    put_field(&mut self.blocks[place], ID, &id);
-                }
-            }
-            Fault::InParty | Fault::OutParty => {
-                let place = self.new_series(random, partners);
-                let at = if fault == Fault::InParty { IN_PARTY } else { OUT_PARTY };
-                put_field(&mut self.blocks[place], at, &names::invalid_eic(random));
-            }
+            (_, None) => {}
+        }
+    }
+
+    fn repeat_id(&mut self, random: &mut Random, partners: &[Field]) {
+        if self.blocks.len() == 2 {
+            self.add_series(random, None, partners, &HashMap::new());
+        }
+        let later = random.between(2.min(self.blocks.len() - 1), self.blocks.len() - 1);
+        let earlier = random.between(1, (later - 1).max(1));
+        let id = field(&self.blocks[earlier], ID);
+        put_field(&mut self.blocks[later], ID, &id);
+    }
+
+    fn repeat_pair(&mut self, random: &mut Random, partners: &[Field]) {
+        self.add_series(random, None, partners, &HashMap::new());
+        let last = self.blocks.len() - 1;
+        if last > 1 && !self.is_stored(&self.blocks[last]) {
+            let (in_party, out_party) = pair(&self.blocks[random.between(1, last - 1)]);
+            put_field(&mut self.blocks[last], IN_PARTY, &in_party);
+            put_field(&mut self.blocks[last], OUT_PARTY, &out_party);
+        }
+    }
+
+    /// Rule 8, at a series that the book does not hold: at any other it would be rule 7.
+    fn spoil_parties(&mut self, random: &mut Random, fault: Fault, place: usize) {
+        let own = self.sender;
+        let invalid = if random.percent(50) { names::hyphen_eic(random) } else { names::invalid_eic(random) };
+        let series = &mut self.blocks[place];
+        match fault {
+            Fault::InParty => put_field(series, IN_PARTY, &invalid),
+            Fault::OutParty => put_field(series, OUT_PARTY, &invalid),
             Fault::EqualParties => {
-                let place = self.new_series(random, partners);
-                let party = if random.percent(70) { self.sender } else { names::valid_eic(random) };
-                put_field(&mut self.blocks[place], IN_PARTY, &party);
-                put_field(&mut self.blocks[place], OUT_PARTY, &party);
+                let party = if random.percent(70) { own } else { names::valid_eic(random) };
+                put_field(series, IN_PARTY, &party);
+                put_field(series, OUT_PARTY, &party);
             }
-            Fault::Strangers => {
-                let place = self.new_series(random, partners);
-                for at in [IN_PARTY, OUT_PARTY] {
-                    let stranger = names::valid_eic(random);
-                    put_field(&mut self.blocks[place], at, &stranger);
-                }
+            _ => {
+                put_field(series, IN_PARTY, &names::valid_eic(random));
+                put_field(series, OUT_PARTY, &names::valid_eic(random));
             }
-            Fault::InArea => put_field(&mut self.blocks[any], IN_AREA, &names::valid_eic(random)),
-            Fault::OutArea => put_field(&mut self.blocks[any], OUT_AREA, &names::invalid_eic(random)),
-            Fault::BusinessType => self.blocks[any][BUSINESS_TYPE] = random.pick(&[0, 1, 3, 255]),
-            Fault::ContractType => self.blocks[any][CONTRACT_TYPE] = random.between(1, 255) as u8,
-            Fault::Agreement => self.blocks[any][AGREEMENT + random.below(16)] = random.between(1, 255) as u8,
-            Fault::TopBit => {
-                let position = Position(random.between(1, usize::from(self.n)) as u16);
-                put_quantity(&mut self.blocks[any], position, random.pick(&[1 << 31, u32::MAX, (1 << 31) + 5]));
-            }
-            Fault::TooHigh => {
-                let position = Position(random.between(1, usize::from(self.n)) as u16);
-                let value = random.pick(&[HIGHEST_QUANTITY + 1, i32::MAX as u32, 1 << 24]);
-                put_quantity(&mut self.blocks[any], position, value);
-            }
-            Fault::AboveN => {
-                if usize::from(self.n) < POSITIONS {
-                    let position = Position(random.between(usize::from(self.n) + 1, POSITIONS) as u16);
-                    put_quantity(&mut self.blocks[any], position, random.pick(&[1, 1 << 31, HIGHEST_QUANTITY + 1]));
-                }
-            }
-            Fault::ClosedChanged | Fault::ClosedNew => {
-                let place = if fault == Fault::ClosedNew {
-                    Some(self.new_series(random, partners))
-                } else {
-                    self.stored_series(random)
-                };
-                if let (Some(place), true) = (place, last_closed > 0) {
-                    let position = if random.percent(50) {
-                        last_closed
-                    } else {
-                        random.between(1, usize::from(last_closed)) as u16
-                    };
-                    let value = quantity(&self.blocks[place], Position(position));
-                    let other = if value < HIGHEST_QUANTITY { value + 1 } else { 5 };
-                    put_quantity(&mut self.blocks[place], Position(position), other);
-                    put_u16(&mut self.blocks[place], VERSION, version);
-                }
-            }
+        }
+    }
+
+    /// Rules 9 and 10.
+    fn spoil_trade(&mut self, random: &mut Random, fault: Fault, place: usize) {
+        let series = &mut self.blocks[place];
+        match fault {
+            Fault::InArea => put_field(series, IN_AREA, &names::valid_eic(random)),
+            Fault::OutArea => put_field(series, OUT_AREA, &names::invalid_eic(random)),
+            Fault::BusinessType => series[BUSINESS_TYPE] = random.pick(&[0, 1, 3, 255]),
+            Fault::ContractType => series[CONTRACT_TYPE] = random.between(1, 255) as u8,
+            _ => series[AGREEMENT + random.below(16)] = random.between(1, 255) as u8,
+        }
+    }
+
+    /// Rules 11 to 13, at a position of its own choice.
+    fn spoil_quantity(&mut self, random: &mut Random, fault: Fault, place: usize) {
+        let n = usize::from(self.n);
+        let position = match fault {
+            Fault::AboveN if n == POSITIONS => return,
+            Fault::AboveN => random.between(n + 1, POSITIONS),
+            _ => random.between(1, n),
+        };
+        self.spoil_quantity_at(random, fault, place, position);
+    }
+
+    fn spoil_quantity_at(&mut self, random: &mut Random, fault: Fault, place: usize, position: usize) {
+        let value = match fault {
+            Fault::TopBit => random.pick(&[1 << 31, u32::MAX, (1 << 31) + 5]),
+            Fault::TooHigh => random.pick(&[HIGHEST_QUANTITY + 1, i32::MAX as u32, 1 << 24]),
+            _ => random.pick(&[1, 1 << 31, HIGHEST_QUANTITY + 1]),
+        };
+        put_quantity(&mut self.blocks[place], Position(position as u16), value);
+    }
+
+    /// Rule 14: a closed position gets another value. Nothing happens while all positions are open.
+    fn change_closed(&mut self, random: &mut Random, place: usize) {
+        let last_closed = usize::from(self.first_open) - 1;
+        if last_closed > 0 {
+            let position = if random.percent(50) { last_closed } else { random.between(1, last_closed) };
+            self.change_at(place, position);
+        }
+    }
+
+    fn change_at(&mut self, place: usize, position: usize) {
+        let version = self.version();
+        let series = &mut self.blocks[place];
+        let position = Position(position as u16);
+        let value = quantity(series, position);
+        put_quantity(series, position, if value < HIGHEST_QUANTITY { value + 1 } else { 5 });
+        put_u16(series, VERSION, version);
+    }
+
+    /// Rule 15.
+    fn spoil_series_version(&mut self, random: &mut Random, fault: Fault, place: usize) {
+        let version = self.version();
+        match fault {
             Fault::SeriesVersionRaised => {
-                for place in 1..self.blocks.len() {
-                    put_u16(&mut self.blocks[place], VERSION, version);
-                }
+                self.blocks[1..].iter_mut().for_each(|series| put_u16(series, VERSION, version));
             }
             Fault::SeriesVersionKept => {
-                let kept = u16_at(&self.blocks[any], VERSION);
-                put_u16(&mut self.blocks[any], VERSION, kept.wrapping_sub(1));
+                let kept = u16_at(&self.blocks[place], VERSION);
+                put_u16(&mut self.blocks[place], VERSION, kept.wrapping_sub(1));
             }
-            Fault::SeriesVersionOdd => {
-                put_u16(&mut self.blocks[any], VERSION, random.pick(&[0, 1_000, version.wrapping_add(1), 65_535]));
+            _ => {
+                let odd = random.pick(&[0, 1_000, version.wrapping_add(1), 65_535]);
+                put_u16(&mut self.blocks[place], VERSION, odd);
             }
-            Fault::Absent => {
-                if let Some(place) = self.stored_series(random) {
-                    self.blocks.remove(place);
-                    if self.blocks.len() == 1 || random.percent(30) {
-                        self.add_series(random, None, partners, &HashMap::new());
-                    }
+        }
+    }
+
+    /// Rules 16 and 17.
+    fn spoil_whole(&mut self, random: &mut Random, fault: Fault, partners: &[Field]) {
+        if fault == Fault::NoRoom {
+            let more = if self.free_slots < 60 { self.free_slots + 2 } else { 0 };
+            for _ in 0..more {
+                self.add_series(random, None, partners, &HashMap::new());
+            }
+        } else if let Some(place) = self.stored_series(random) {
+            self.blocks.remove(place);
+            if self.blocks.len() == 1 || random.percent(30) {
+                self.add_series(random, None, partners, &HashMap::new());
+            }
+        }
+    }
+
+    /// Several of the rules 11 to 14 broken in one series, so that it matters how its positions are
+    /// gone through: 11 to 13 by ascending position, and 14 only after all of them.
+    pub fn mix_quantities(&mut self, random: &mut Random, place: usize) {
+        let n = usize::from(self.n);
+        let low = random.between(1, n - 1);
+        let high = random.between(low + 1, n);
+        let bad = random.pick(&[Fault::TopBit, Fault::TooHigh]);
+        let last_closed = usize::from(self.first_open) - 1;
+        match random.below(4) {
+            0 if n < POSITIONS => {
+                self.spoil_quantity_at(random, bad, place, low);
+                self.spoil_quantity(random, Fault::AboveN, place);
+            }
+            1 if last_closed > 0 => {
+                let closed = random.between(1, last_closed.min(n - 1));
+                let above = random.between(closed + 1, n);
+                self.change_at(place, closed);
+                match random.below(3) {
+                    0 => self.spoil_quantity(random, Fault::AboveN, place),
+                    _ => self.spoil_quantity_at(random, bad, place, above),
                 }
             }
-            Fault::NoRoom => {
-                if self.free_slots < 60 {
-                    for _ in 0..=self.free_slots + 1 {
-                        self.add_series(random, None, partners, &HashMap::new());
-                    }
-                }
+            2 => {
+                self.spoil_quantity_at(random, Fault::TopBit, place, low);
+                self.spoil_quantity_at(random, Fault::TooHigh, place, high);
             }
+            _ => {
+                self.spoil_quantity_at(random, Fault::TooHigh, place, low);
+                self.spoil_quantity_at(random, Fault::TopBit, place, high);
+            }
+        }
+    }
+
+    /// A series breaks a rule, and a later series an earlier one. The first series decides: it passes
+    /// all of 7 to 15 before the next begins.
+    pub fn break_out_of_order(&mut self, random: &mut Random, partners: &[Field]) {
+        while self.blocks.len() < 3 {
+            self.add_series(random, None, partners, &HashMap::new());
+        }
+        let first = random.between(1, self.blocks.len() - 2);
+        let second = random.between(first + 1, self.blocks.len() - 1);
+        let (earlier, later) = (self.rules_at(second), self.rules_at(first));
+        let rule = random.pick(&later[1..]);
+        let before: Vec<u8> = earlier.into_iter().filter(|&other| other < rule).collect();
+        self.break_rule(random, rule, first);
+        let lower = random.pick(&before);
+        self.break_rule(random, lower, second);
+    }
+
+    /// The rules among 7 to 15 that can be broken at this series, ascending.
+    fn rules_at(&self, place: usize) -> Vec<u8> {
+        let can = |rule: u8| match rule {
+            8 => !self.is_stored(&self.blocks[place]),
+            13 => usize::from(self.n) < POSITIONS,
+            14 => self.first_open > 1,
+            _ => true,
+        };
+        (7..=15).filter(|&rule| can(rule)).collect()
+    }
+
+    /// Breaks one of the rules 7 to 15 at this series.
+    fn break_rule(&mut self, random: &mut Random, rule: u8, place: usize) {
+        let fault = Fault::of_rule(random, rule);
+        match rule {
+            7 => put_field(&mut self.blocks[place], ID, &names::malformed_id(random)),
+            8 => self.spoil_parties(random, fault, place),
+            9 | 10 => self.spoil_trade(random, fault, place),
+            14 => self.change_closed(random, place),
+            15 => self.spoil_series_version(random, Fault::SeriesVersionOdd, place),
+            _ => self.spoil_quantity(random, fault, place),
         }
     }
 }
 
-/// Ways to spoil the form of a message, one for each clause of rule 2.
-#[derive(Clone, Copy, Debug, PartialEq, Eq)]
-pub enum FormFault {
-    PartOfBlock,
-    TooShort,
-    TooLong,
-    Check,
-    FirstKind,
-    LaterKind,
-    Count,
-    SenderBytes6To7,
-    SenderBytes64To107,
-    SenderNets,
-    SeriesSenderSlot,
-    SeriesMark,
-    SeriesN,
-}
-
-impl FormFault {
-    pub const ALL: &'static [FormFault] = &[
-        FormFault::PartOfBlock,
-        FormFault::TooShort,
-        FormFault::TooLong,
-        FormFault::Check,
-        FormFault::FirstKind,
-        FormFault::LaterKind,
-        FormFault::Count,
-        FormFault::SenderBytes6To7,
-        FormFault::SenderBytes64To107,
-        FormFault::SenderNets,
-        FormFault::SeriesSenderSlot,
-        FormFault::SeriesMark,
-        FormFault::SeriesN,
-    ];
+cases! {
+    /// Ways to spoil the form of a message, one for each clause of rule 2.
+    FormFault {
+        PartOfBlock "part of a block",
+        TooShort "fewer than 2 blocks",
+        TooLong "more than 201 blocks",
+        Check "check",
+        FirstKind "first kind",
+        LaterKind "later kind",
+        Count "count",
+        SenderBytes6To7 "sender's bytes 6-7",
+        SenderBytes64To107 "sender's bytes 64-107",
+        SenderNets "nets",
+        SeriesSenderSlot "sender's slot",
+        SeriesMark "mark",
+        SeriesN "n of a series",
+    }
 }
 
 impl Draft {
@@ -612,7 +738,7 @@ mod tests {
         assert_eq!(crate::day::open(&mut book, 96, 45, b"20190131", &area, &receiver), 0);
         for _ in 0..300 {
             for (&fault, &clause) in FormFault::ALL.iter().zip(MessageClause::ALL) {
-                let growth = Growth { new: New::UpTo(4), changed: 50, one_sided: false };
+                let growth = Growth { new: New::UpTo(4), changed: 50, side: None };
                 let draft = Draft::lawful(&mut random, &book, partners[0], &partners, &growth);
                 let message = draft.finished(&mut random, &[fault]);
                 assert_eq!(broken_clauses(&message), clause.bit(), "{fault:?}");

@@ -9,23 +9,50 @@ use std::collections::VecDeque;
 use std::io::{self, Write};
 
 use crate::block::*;
+use crate::breach::{break_book, Breach};
 use crate::counts::{Minute, Position, DAY_START, LATEST_MINUTE, LONGEST_LEAD};
 use crate::crafted::{self, Shape};
+use crate::deck::Deck;
 use crate::desk::Desk;
-use crate::draft::{Draft, Fault, FormFault, Growth, New};
+use crate::draft::{Draft, Fault, FormFault, Growth, New, Side};
 use crate::names;
 use crate::random::Random;
-use crate::sound::{is_sound, SoundClause, FEWEST_BLOCKS, MOST_BLOCKS};
+use crate::sound::{is_sound, FEWEST_BLOCKS, MOST_BLOCKS};
 use crate::stream::{records_between, Record};
 use crate::submission::submit;
 
-/// How large the books of an episode are.
+/// What an episode is about, and how large its books are.
 #[derive(Clone, Copy, PartialEq, Eq)]
-enum Scale {
+enum Episode {
     Small,
     Middling,
+    /// Messages of more than 20 and fewer than 200 series.
+    Long,
+    /// Up to all 1,001 blocks.
     Full,
+    /// One sender whose nets reach their limit on this side.
+    Limit(Side),
+    /// One sender whose filings reach version 999, and try the next.
+    Climb,
 }
+
+/// The episodes of one round: every stream of the comparison is long enough for one.
+const EPISODES: [(Episode, usize); 7] = [
+    (Episode::Small, 34),
+    (Episode::Middling, 9),
+    (Episode::Long, 2),
+    (Episode::Full, 2),
+    (Episode::Limit(Side::Buys), 1),
+    (Episode::Limit(Side::Sells), 1),
+    (Episode::Climb, 2),
+];
+
+/// A stream with a seed that this number divides begins with all filings of one sender from version
+/// 1 to 999. They are many, so not every stream can have them.
+const WHOLE_CLIMB: u64 = 5;
+
+/// How often the refusal of version 1,000 is asked for after a climb.
+const BEYOND_CLIMB: usize = 3;
 
 /// A book to be put back after some calls on a damaged one.
 struct Repair {
@@ -33,17 +60,31 @@ struct Repair {
     original: Vec<u8>,
 }
 
+/// A sender that files again and again.
+struct Climber {
+    sender: Field,
+    /// How often it still tries to go beyond version 999.
+    beyond: usize,
+}
+
 pub struct Generator {
     random: Random,
     pool: Vec<Field>,
     queue: VecDeque<Record>,
-    scale: Scale,
+    episodes: Deck<Episode>,
+    breaches: Deck<Breach>,
+    /// The lower of two rules, next to each other, that one message is to break.
+    neighbours: Deck<u8>,
+    episode: Episode,
+    whole_climb: bool,
     partners: Vec<Field>,
     /// Actions left in this episode.
     left: usize,
-    /// Large lawful messages still to come at the beginning of an episode with a full book.
+    /// Large lawful messages still to come at the beginning of an episode.
     large_messages: usize,
+    climber: Option<Climber>,
     repair: Option<Repair>,
+    breach: Option<Breach>,
 }
 
 /// The EICs the paper prints.
@@ -67,15 +108,22 @@ impl Generator {
                 pool.push(code);
             }
         }
+        let round: Vec<Episode> = EPISODES.iter().flat_map(|&(episode, times)| vec![episode; times]).collect();
         Generator {
             random,
             pool,
             queue: VecDeque::new(),
-            scale: Scale::Small,
+            episodes: Deck::of(&round),
+            breaches: Deck::of(Breach::ALL),
+            neighbours: Deck::of(&(3..=16).collect::<Vec<u8>>()),
+            episode: Episode::Small,
+            whole_climb: seed % WHOLE_CLIMB == 0,
             partners: Vec::new(),
             left: 0,
             large_messages: 0,
+            climber: None,
             repair: None,
+            breach: None,
         }
     }
 
@@ -85,8 +133,14 @@ impl Generator {
             if let Some(record) = self.queue.pop_front() {
                 return record;
             }
+            self.breach = None;
             self.plan(book);
         }
+    }
+
+    /// In which way the book is broken on which the last record was made, where just one clause is.
+    pub fn breach(&self) -> Option<Breach> {
+        self.breach
     }
 
     fn plan(&mut self, book: &[u8]) {
@@ -105,9 +159,17 @@ impl Generator {
         if self.large_messages > 0 {
             self.large_messages -= 1;
             self.large_message(book);
-            return;
+        } else if self.climber.is_none() {
+            self.action(book);
+        } else if self.random.percent(97) {
+            self.climb(book);
+        } else {
+            self.book_call(book);
         }
-        match self.random.weighted(&[52, 7, 8, 5, 9, 4, 6, 3, 3, 16, 3, 1]) {
+    }
+
+    fn action(&mut self, book: &[u8]) {
+        match self.random.weighted(&[52, 7, 8, 5, 9, 4, 6, 3, 3, 16, 3, 1, 6]) {
             0 => self.submission(book),
             1 => self.clock(book),
             2 => self.mark_or_block(book, true),
@@ -119,67 +181,87 @@ impl Generator {
             8 => self.queue.push_back(Record::Sound),
             9 => self.leaf(),
             10 => self.damage(book),
-            _ => self.reopen(),
+            11 => self.reopen(),
+            _ => self.broken_book(book),
         }
     }
 
     fn start_episode(&mut self, book: &[u8]) {
-        let random = &mut self.random;
-        self.scale = [Scale::Small, Scale::Middling, Scale::Full][random.weighted(&[770, 200, 30])];
-        random.shuffle(&mut self.pool);
-        let partners = match self.scale {
-            Scale::Small => random.between(2, 5),
-            Scale::Middling => random.between(4, 20),
-            Scale::Full => random.between(202, 240),
-        };
-        self.partners = self.pool[..partners].to_vec();
         // What the book held is sometimes shown before it goes; a long one only rarely.
         let shown = if book.len() <= 64 * BLOCK_BYTES { 150 } else { 10 };
-        if random.below(1_000) < shown {
+        if self.random.below(1_000) < shown {
             self.queue.push_back(Record::Book);
         }
-        if random.percent(22) {
-            self.crafted_episode(book);
+        self.climber = None;
+        self.large_messages = 0;
+        if self.whole_climb {
+            self.whole_climb = false;
+            self.begin(Episode::Climb);
+            self.opened_book();
+            self.start_climb(self.partners[0], 0);
             return;
         }
-        let blocks = match self.scale {
-            Scale::Small => {
-                if random.percent(25) {
-                    random.between(FEWEST_BLOCKS, 12)
-                } else {
-                    random.between(12, 48)
-                }
-            }
-            Scale::Middling => {
-                if random.percent(20) {
-                    random.pick(&[63, 64, 65, 66])
-                } else {
-                    random.between(30, 160)
-                }
-            }
-            Scale::Full => {
-                if random.percent(60) {
-                    MOST_BLOCKS
-                } else {
-                    random.between(400, MOST_BLOCKS)
-                }
-            }
+        let episode = self.episodes.deal(&mut self.random);
+        self.begin(episode);
+        match episode {
+            Episode::Climb => self.crafted_climb(book),
+            Episode::Limit(_) => self.opened_book(),
+            Episode::Full if self.random.percent(50) => self.crafted_episode(book),
+            _ if self.random.percent(22) => self.crafted_episode(book),
+            _ => self.opened_book(),
+        }
+    }
+
+    /// Chooses the partners of an episode and how long it lasts.
+    fn begin(&mut self, episode: Episode) {
+        self.episode = episode;
+        let random = &mut self.random;
+        random.shuffle(&mut self.pool);
+        let (partners, left) = match episode {
+            Episode::Small => (random.between(2, 5), random.between(20, 120)),
+            Episode::Middling => (random.between(4, 20), random.between(40, 160)),
+            Episode::Long => (random.between(60, 200), random.between(20, 40)),
+            Episode::Full => (random.between(202, 240), random.between(14, 24)),
+            Episode::Limit(_) => (random.between(202, 240), random.between(9, 14)),
+            Episode::Climb => (random.between(2, 4), 0),
         };
-        self.left = match self.scale {
-            Scale::Small => random.between(20, 120),
-            Scale::Middling => random.between(40, 160),
-            Scale::Full => random.between(20, 60),
+        self.partners = self.pool[..partners].to_vec();
+        self.left = left;
+        self.large_messages = match episode {
+            Episode::Full => random.between(6, 8),
+            Episode::Limit(_) => 6,
+            _ => 0,
         };
-        self.large_messages = if self.scale == Scale::Full { random.between(3, 5) } else { 0 };
-        if random.percent(5) {
+    }
+
+    /// How many blocks a book of this episode gets when it is opened.
+    fn blocks(&mut self) -> usize {
+        let random = &mut self.random;
+        match self.episode {
+            Episode::Small if random.percent(25) => random.between(FEWEST_BLOCKS, 12),
+            Episode::Small => random.between(12, 48),
+            Episode::Middling if random.percent(20) => random.pick(&[63, 64, 65, 66]),
+            Episode::Middling => random.between(30, 160),
+            Episode::Long => random.between(120, 400),
+            Episode::Full if random.percent(80) => MOST_BLOCKS,
+            Episode::Full => random.between(400, MOST_BLOCKS),
+            Episode::Limit(_) => random.between(202, 210),
+            Episode::Climb => random.between(6, 12),
+        }
+    }
+
+    /// Opens a book, after a few attempts that fail.
+    fn opened_book(&mut self) {
+        let length = self.blocks() * BLOCK_BYTES;
+        if self.random.percent(14) {
             // No book may have these lengths.
-            let wrong = random.pick(&[0, 1, 511, 512, 513, 1_025, (blocks * BLOCK_BYTES - 1) as u32]);
+            let wrong = self.random.pick(&[0, 1, 511, 512, 513, 1_025, (length - 1) as u32]);
             self.queue.push_back(Record::Length(wrong));
             let open = self.opening();
             self.queue.push_back(open);
         }
-        self.queue.push_back(Record::Length((blocks * BLOCK_BYTES) as u32));
-        while self.random.percent(8) {
+        self.queue.push_back(Record::Length(length as u32));
+        while self.random.percent(38) {
             let open = self.wrong_opening();
             self.queue.push_back(open);
         }
@@ -190,7 +272,7 @@ impl Generator {
         };
         self.queue.push_back(open);
         self.queue.push_back(Record::Sum);
-        if self.random.percent(35) {
+        if !matches!(self.episode, Episode::Limit(_)) && self.random.percent(35) {
             // The clock starts somewhere in the day already.
             let position = self.random.between(1, 60) as u16;
             self.queue.push_back(Record::Clock(DAY_START + 15 * position - lead));
@@ -217,8 +299,8 @@ impl Generator {
             Record::Open { n, lead, day, area, receiver } => (n, lead, day, area, receiver),
             _ => unreachable!("an opening was made"),
         };
-        for _ in 0..random.between(1, 2) {
-            match random.below(8) {
+        for _ in 0..random.pick(&[1, 1, 1, 2]) {
+            match random.below(10) {
                 0 => *n = random.pick(&[0, 91, 93, 95, 97, 99, 101, 255, 24]),
                 1 => *lead = random.pick(&[LONGEST_LEAD + 1, 65_535, 2_880]),
                 2 => {
@@ -232,6 +314,8 @@ impl Generator {
                 4 => *area = names::invalid_eic(random).to_vec(),
                 5 => *receiver = names::invalid_eic(random).to_vec(),
                 6 => area.push(b'0'),
+                7 => *area = names::hyphen_eic(random).to_vec(),
+                8 => *receiver = names::hyphen_eic(random).to_vec(),
                 _ => {
                     receiver.pop();
                 }
@@ -247,44 +331,88 @@ impl Generator {
         self.queue.push_back(Record::Sum);
     }
 
-    /// An episode on a crafted book: sound, or with one clause broken, or one clause broken and a
-    /// second one on top.
+    /// An episode on a crafted book: mostly sound, else with one clause broken, or one clause broken
+    /// and a second one on top.
     fn crafted_episode(&mut self, book: &[u8]) {
+        let shape = self.shape();
+        let mut target = self.crafted_book(&shape);
         let random = &mut self.random;
-        let shape = match self.scale {
-            Scale::Small => Shape {
-                senders: random.between(1, 4),
-                fewest_series: 1,
-                most_series: random.between(1, 5),
-                free_slots: random.below(6),
-            },
-            Scale::Middling => {
-                Shape { senders: random.between(2, 6), fewest_series: 1, most_series: 20, free_slots: random.below(20) }
-            }
-            Scale::Full => Shape { senders: 4, fewest_series: 190, most_series: 200, free_slots: random.below(201) },
-        };
-        let count_too_high = self.scale == Scale::Full && random.percent(15);
-        let shape = if count_too_high { Shape { fewest_series: 201, most_series: 201, ..shape } } else { shape };
-        let mut target = crafted::sound_book(random, &self.pool, &shape);
-        self.partners = senders_of(&target);
-        self.partners.push(self.pool[0]);
-        self.partners.push(self.pool[1]);
-        self.left = if self.scale == Scale::Full { random.between(3, 10) } else { random.between(4, 40) };
-        if random.percent(55) && !count_too_high {
-            let clause = random.pick(SoundClause::ALL);
-            if let Some(broken) = crafted::break_clause(random, &target, clause) {
+        if random.percent(25) {
+            if let Some((_, broken)) =
+                self.breaches.deal_serving(random, |random, breach| break_book(random, &target, breach))
+            {
                 target = broken;
-                if random.percent(20) {
+                if random.percent(40) {
                     flip_and_reseal(random, &mut target);
                 }
             }
         }
         let sound = is_sound(&target);
         self.set_book(book, &target);
+        self.large_messages = self.large_messages.min(2);
+        self.left = match self.episode {
+            _ if !sound => self.random.between(1, 5),
+            Episode::Full | Episode::Long => self.random.between(5, 15),
+            _ => self.random.between(4, 40),
+        };
         if !sound {
-            self.left = self.random.between(1, 5);
             self.queue.push_back(Record::Sound);
         }
+    }
+
+    fn shape(&mut self) -> Shape {
+        let random = &mut self.random;
+        let (senders, fewest_series, most_series, free_slots) = match self.episode {
+            Episode::Middling => (random.between(2, 6), 1, 20, random.below(20)),
+            Episode::Long => (random.between(1, 3), 21, 150, random.below(100)),
+            Episode::Full if random.percent(50) => (5, 199, 199, 0),
+            Episode::Full => (4, 190, 200, random.below(201)),
+            _ => (random.between(1, 4), 1, random.between(1, 5), random.below(6)),
+        };
+        Shape { senders, fewest_series, most_series, free_slots }
+    }
+
+    /// A sound book of this shape; its senders become the partners, with two that are strangers to it.
+    fn crafted_book(&mut self, shape: &Shape) -> Vec<u8> {
+        let book = crafted::sound_book(&mut self.random, &self.pool, shape);
+        self.partners = senders_of(&book);
+        self.partners.extend_from_slice(&self.pool[..2]);
+        book
+    }
+
+    /// A crafted book one of whose senders is a few filings away from version 999.
+    fn crafted_climb(&mut self, book: &[u8]) {
+        let shape = self.shape();
+        let target = self.crafted_book(&shape);
+        let version = self.random.between(990, usize::from(HIGHEST_VERSION)) as u16;
+        let (sender, target) = crafted::with_version(&target, version).expect("a crafted book has a sender");
+        self.set_book(book, &target);
+        self.start_climb(sender, usize::from(version));
+    }
+
+    fn start_climb(&mut self, sender: Field, version: usize) {
+        self.climber = Some(Climber { sender, beyond: BEYOND_CLIMB });
+        // The climber ends the episode; the number only bounds it.
+        self.left = 2 * (usize::from(HIGHEST_VERSION) - version + BEYOND_CLIMB);
+    }
+
+    /// The next filing of the climber, lawful but for its version in the end.
+    fn climb(&mut self, book: &[u8]) {
+        let sender = self.climber.as_ref().expect("there is a climber").sender;
+        let kept = blocks(book).find(|block| block[KIND] == KIND_SENDER && field(block, SENDER) == sender);
+        if kept.map_or(false, |block| u16_at(block, VERSION) == HIGHEST_VERSION) {
+            self.climber = self.climber.take().filter(|climber| climber.beyond > 1);
+            match self.climber.as_mut() {
+                None => self.left = 0,
+                Some(climber) => climber.beyond -= 1,
+            }
+        }
+        let free = blocks(book).filter(|block| block[KIND] == 0).count();
+        let new = New::UpTo(usize::from(free > 2 && self.random.percent(5)));
+        let growth = Growth { new, changed: self.random.pick(&[0, 35, 100]), side: None };
+        let draft = Draft::lawful(&mut self.random, book, sender, &self.partners, &growth);
+        let message = draft.finished(&mut self.random, &[]);
+        self.submit_and_show(book, message);
     }
 
     fn set_book(&mut self, from: &[u8], to: &[u8]) {
@@ -294,14 +422,16 @@ impl Generator {
     fn growth(&mut self, book: &[u8]) -> Growth {
         let random = &mut self.random;
         let free = blocks(book).filter(|block| block[KIND] == 0).count();
-        let most_new = match self.scale {
-            Scale::Small => random.below(4),
-            Scale::Middling => random.below(16),
-            Scale::Full => random.pick(&[200, 200, 120, 20, 0]),
+        let most_new = match self.episode {
+            Episode::Middling => random.below(16),
+            Episode::Long => random.between(0, 120),
+            Episode::Full | Episode::Limit(_) => random.pick(&[200, 200, 120, 20, 0]),
+            _ => random.below(4),
         };
         // Mostly what is asked for has room; sometimes it fills the book to the last slot, and
         // sometimes it is one block too many.
-        let filling = if self.scale == Scale::Full { 5 } else { 1 };
+        let large = matches!(self.episode, Episode::Full | Episode::Long);
+        let filling = if large { 5 } else { 1 };
         let new = if free > 0 && free < 200 && random.below(40) < 2 * filling {
             New::Filling(random.below(2))
         } else if random.percent(4) {
@@ -314,7 +444,8 @@ impl Generator {
             1 => 100,
             _ => 35,
         };
-        Growth { new, changed, one_sided: self.scale == Scale::Full && random.percent(40) }
+        let side = random.pick(&[Side::Buys, Side::Sells]);
+        Growth { new, changed, side: Some(side).filter(|_| large && random.percent(40)) }
     }
 
     fn sender(&mut self, book: &[u8]) -> Field {
@@ -326,7 +457,7 @@ impl Generator {
             return random.pick(&known);
         }
         let series: Vec<&Block> = blocks(book).skip(1).filter(|block| block[KIND] == KIND_SERIES).collect();
-        if !series.is_empty() && self.scale != Scale::Full && random.percent(45) {
+        if !series.is_empty() && self.episode != Episode::Full && random.percent(45) {
             // One of the parties of a filed trade, so that trades find their other side.
             let (in_party, out_party) = pair(random.pick(&series));
             return random.pick(&[in_party, out_party]);
@@ -340,60 +471,113 @@ impl Generator {
 
     /// A message, lawful or spoilt.
     fn message(&mut self, book: &[u8]) -> Vec<u8> {
-        let sender = self.sender(book);
+        let mut sender = self.sender(book);
         let mut growth = self.growth(book);
-        let kind = self.random.weighted(&[50, 8, 30, 10, 2]);
-        if kind == 1 {
-            // A message that changes nothing.
-            growth = Growth { new: New::UpTo(0), changed: 0, one_sided: false };
-        }
         let random = &mut self.random;
-        let mut draft = Draft::lawful(random, book, sender, &self.partners, &growth);
-        let how_many = [1, 1, 1, 2, 3][random.below(5)];
+        let kind = random.weighted(&[50, 8, 28, 6, 4, 4, 10, 2, 1]);
         match kind {
-            2 => {
-                for _ in 0..how_many {
-                    // Some faults find what they need only now and then, so they get more tries.
-                    let fault = match random.below(5) {
-                        0 => random.pick(&[Fault::ClosedChanged, Fault::ClosedNew, Fault::Absent, Fault::AboveN]),
-                        _ => random.pick(Fault::ALL),
-                    };
-                    draft.spoil(random, fault, &self.partners);
-                }
-                draft.finished(random, &[])
-            }
-            3 => {
-                let mut faults: Vec<FormFault> = (0..how_many).map(|_| random.pick(FormFault::ALL)).collect();
-                if random.percent(90) {
-                    // The long one is large; rarely is often enough.
-                    faults.retain(|&fault| fault != FormFault::TooLong);
-                }
-                draft.finished(random, &faults)
-            }
-            4 => {
-                let mut message = draft.finished(random, &[]);
-                for _ in 0..random.between(1, 4) {
-                    let at = random.below(message.len());
-                    message[at] = random.byte();
-                }
-                if random.percent(70) {
-                    reseal(&mut message);
-                }
-                message
-            }
-            _ => draft.finished(random, &[]),
+            // A message that changes nothing.
+            1 => growth = Growth { new: New::UpTo(0), changed: 0, side: None },
+            // A lawful message of a sender whose code ends in a hyphen.
+            8 => sender = names::hyphen_eic(random),
+            _ => {}
         }
+        let mut draft = Draft::lawful(random, book, sender, &self.partners, &growth);
+        let place = draft.any_place(random);
+        match kind {
+            2 => self.spoil(&mut draft),
+            3 => self.break_neighbours(&mut draft, place),
+            4 => draft.mix_quantities(random, place),
+            5 => draft.break_out_of_order(random, &self.partners),
+            6 => return self.spoil_form(draft),
+            7 => return self.garble(draft),
+            _ => {}
+        }
+        draft.finished(&mut self.random, &[])
+    }
+
+    /// One fault, or several wherever they fall.
+    fn spoil(&mut self, draft: &mut Draft) {
+        let random = &mut self.random;
+        for _ in 0..random.pick(&[1, 1, 1, 2, 3]) {
+            // Some faults find what they need only now and then, so they get more tries.
+            let fault = match random.below(5) {
+                0 => random.pick(&[Fault::ClosedChanged, Fault::ClosedNew, Fault::Absent, Fault::AboveN]),
+                _ => random.pick(Fault::ALL),
+            };
+            let place = draft.any_place(random);
+            draft.spoil(random, fault, place, &self.partners);
+        }
+    }
+
+    /// Two rules that follow each other, mostly at one series: the lower one must decide.
+    fn break_neighbours(&mut self, draft: &mut Draft, place: usize) {
+        let random = &mut self.random;
+        let lower = self.neighbours.deal(random);
+        for rule in [lower + 1, lower] {
+            let fault = Fault::of_rule(random, rule);
+            let place = place.min(draft.blocks.len() - 1);
+            draft.spoil(random, fault, place, &self.partners);
+        }
+    }
+
+    fn spoil_form(&mut self, draft: Draft) -> Vec<u8> {
+        let random = &mut self.random;
+        let how_many = random.pick(&[1, 1, 1, 2, 3]);
+        let mut faults: Vec<FormFault> = (0..how_many).map(|_| random.pick(FormFault::ALL)).collect();
+        if random.percent(50) {
+            // The long one is large; now and then is often enough.
+            faults.retain(|&fault| fault != FormFault::TooLong);
+        }
+        draft.finished(random, &faults)
+    }
+
+    /// A few bytes changed anywhere.
+    fn garble(&mut self, draft: Draft) -> Vec<u8> {
+        let random = &mut self.random;
+        let mut message = draft.finished(random, &[]);
+        for _ in 0..random.between(1, 4) {
+            let at = random.below(message.len());
+            message[at] = random.byte();
+        }
+        if random.percent(70) {
+            reseal(&mut message);
+        }
+        message
     }
 
     /// A lawful message with nearly as many series as a message may have, or as there is room for.
     fn large_message(&mut self, book: &[u8]) {
+        let message = match self.episode {
+            Episode::Limit(side) => self.message_at_limit(book, side),
+            _ => {
+                let random = &mut self.random;
+                let sender = random.pick(&self.partners);
+                let free = blocks(book).filter(|block| block[KIND] == 0).count();
+                let new = if free <= 200 { New::Filling(0) } else { New::Exactly(random.between(190, 200)) };
+                let side = random.pick(&[Some(Side::Buys), Some(Side::Sells), None, None, None]);
+                let growth = Growth { new, changed: 0, side };
+                Draft::lawful(random, book, sender, &self.partners, &growth).finished(random, &[])
+            }
+        };
+        self.submit_and_show(book, message);
+    }
+
+    /// A message of 200 series, all on one side, its nets at their limit or just below it.
+    fn message_at_limit(&mut self, book: &[u8], side: Side) -> Vec<u8> {
         let random = &mut self.random;
-        let sender = random.pick(&self.partners);
-        let free = blocks(book).filter(|block| block[KIND] == 0).count();
-        let new = if free <= 200 { New::Filling(0) } else { New::Exactly(random.between(190, 200)) };
-        let growth = Growth { new, changed: 0, one_sided: random.percent(40) };
-        let draft = Draft::lawful(random, book, sender, &self.partners, &growth);
-        let message = draft.finished(random, &[]);
+        let sender = self.partners[0];
+        let filed = senders_of(book).contains(&sender);
+        let new = New::Exactly(if filed { 0 } else { usize::from(MOST_SERIES) });
+        let growth = Growth { new, changed: 0, side: Some(side) };
+        let mut draft = Draft::lawful(random, book, sender, &self.partners, &growth);
+        if filed {
+            draft.move_about_limit(random);
+        }
+        draft.finished(random, &[])
+    }
+
+    fn submit_and_show(&mut self, book: &[u8], message: Vec<u8>) {
         let accepted = is_accepted(book, &message);
         self.queue.push_back(Record::Submit(message));
         self.show_after(accepted);
@@ -417,9 +601,7 @@ impl Generator {
             }
             _ => {}
         }
-        let accepted = is_accepted(book, &message);
-        self.queue.push_back(Record::Submit(message));
-        self.show_after(accepted);
+        self.submit_and_show(book, message);
     }
 
     fn reader(&mut self, book: &[u8]) {
@@ -541,7 +723,7 @@ impl Generator {
             return;
         }
         let random = &mut self.random;
-        let damaged = match random.weighted(&[4, 8, 14, 12, 2]) {
+        let damaged = match random.weighted(&[4, 8, 12, 2]) {
             0 => {
                 let mut bytes = book.to_vec();
                 for _ in 0..random.between(1, 3) {
@@ -554,11 +736,7 @@ impl Generator {
                 flip_and_reseal(random, &mut bytes);
                 Some(bytes)
             }
-            2 => {
-                let clause = random.pick(SoundClause::ALL);
-                crafted::break_clause(random, book, clause)
-            }
-            3 => crafted::falsify(random, book),
+            2 => crafted::falsify(random, book),
             _ => {
                 let keep = random.below(book.len());
                 Some(book[..keep].to_vec())
@@ -571,14 +749,50 @@ impl Generator {
         }
     }
 
+    /// A few calls on a book that breaks one clause of soundness, which is then put back.
+    fn broken_book(&mut self, book: &[u8]) {
+        if !is_sound(book) {
+            return;
+        }
+        let dealt = self.breaches.deal_serving(&mut self.random, |random, breach| break_book(random, book, breach));
+        if let Some((breach, broken)) = dealt {
+            self.breach = Some(breach);
+            self.set_book(book, &broken);
+            for _ in 0..self.random.between(2, 3) {
+                self.book_call(book);
+            }
+            self.queue.push_back(Record::Sum);
+            self.set_book(&broken, book);
+        }
+    }
+
+    /// A call that begins by asking whether the book is sound. It is made for the book given.
+    fn book_call(&mut self, book: &[u8]) {
+        match self.random.below(8) {
+            0 => self.queue.push_back(Record::Sound),
+            1 => {
+                let message = self.message(book);
+                self.queue.push_back(Record::Submit(message));
+                self.queue.push_back(Record::Sum);
+            }
+            2 => self.mark_or_block(book, true),
+            3 => self.mark_or_block(book, false),
+            4 => self.final_reading(book),
+            5 => self.queue.push_back(Record::Plain),
+            6 => self.queue.push_back(Record::Listing),
+            _ => self.clock(book),
+        }
+    }
+
     /// Calls that need no book.
     fn leaf(&mut self) {
         let random = &mut self.random;
         let record = match random.weighted(&[6, 4, 7, 4, 2, 2, 1]) {
             0 => {
                 let mut code = random.pick(&self.pool).to_vec();
-                match random.below(8) {
+                match random.below(9) {
                     0 | 1 => {}
+                    8 => code = names::hyphen_eic(random).to_vec(),
                     2 => code[random.below(16)] = random.byte(),
                     3 => code[15] = random.byte(),
                     4 => code.truncate(random.below(16)),

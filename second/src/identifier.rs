@@ -55,6 +55,12 @@ pub fn is_valid_eic(bytes: &[u8]) -> bool {
     last < 36 && check_value(first_fifteen) == Some(last)
 }
 
+/// Whether the bytes would be a valid EIC, were a hyphen allowed as its sixteenth character.
+pub fn fails_by_hyphen_alone(bytes: &[u8]) -> bool {
+    let first_fifteen: Option<&[u8; 15]> = bytes.get(..15).and_then(|part| part.try_into().ok());
+    bytes.get(15..) == Some(b"-") && first_fifteen.and_then(check_value) == Some(36)
+}
+
 /// Whether the bytes are a well-formed id field: one to sixteen characters of the EIC alphabet,
 /// then zero bytes only.
 pub fn is_well_formed_id(bytes: &[u8]) -> bool {
@@ -94,6 +100,8 @@ mod tests {
         // of the fifteenth place times 19, the value of J.
         assert_eq!(check_value(b"00000000000000J"), Some(36));
         assert!(!is_valid_eic(b"00000000000000J-"));
+        assert!(fails_by_hyphen_alone(b"00000000000000J-"));
+        assert!(!fails_by_hyphen_alone(b"00000000000000K-"));
         for last in 0..=255u8 {
             let mut code = *b"0000000000000000";
             code[15] = last;

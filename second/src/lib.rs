@@ -20,7 +20,9 @@ pub mod readings;
 pub mod sound;
 pub mod submission;
 
+pub mod breach;
 pub mod crafted;
+pub mod deck;
 pub mod desk;
 pub mod draft;
 pub mod examples;
@@ -29,4 +31,5 @@ pub mod histogram;
 pub mod names;
 pub mod random;
 pub mod selfcheck;
+pub mod sights;
 pub mod stream;

@@ -1,7 +1,7 @@
 //! Random names, quantities and days for the generator.
 
 use crate::block::{Field, HIGHEST_QUANTITY, POSITIONS};
-use crate::identifier::{check_value, is_valid_eic};
+use crate::identifier::{check_value, fails_by_hyphen_alone, is_valid_eic};
 use crate::random::Random;
 
 const ALPHABET: &[u8] = b"0123456789ABCDEFGHIJKLMNOPQRSTUVWXYZ-";
@@ -21,11 +21,26 @@ pub fn valid_eic(random: &mut Random) -> Field {
     }
 }
 
+/// A code whose one fault is that its sixteenth character is a hyphen: its first fifteen ask for the
+/// value 36, which a hyphen has.
+pub fn hyphen_eic(random: &mut Random) -> Field {
+    loop {
+        let mut code = [b'-'; 16];
+        for character in code.iter_mut().take(15) {
+            *character = random.pick(ALPHABET);
+        }
+        if fails_by_hyphen_alone(&code) {
+            return code;
+        }
+    }
+}
+
 /// A field that is close to an EIC but is none.
 pub fn invalid_eic(random: &mut Random) -> Field {
     loop {
         let mut code = valid_eic(random);
-        match random.below(6) {
+        match random.below(8) {
+            6 | 7 => return hyphen_eic(random),
             0 => code[15] = b'-',
             1 => code = [b'0'; 16],
             2 => code[random.below(16)] = random.byte(),

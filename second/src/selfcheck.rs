@@ -224,7 +224,7 @@ fn checked_calls(seed: u64, calls: u64, histogram: &mut Histogram) -> Result<Led
         }
         let reply = desk.answer(&record).expect("the generator keeps within the buffer");
         made += u64::from(record.is_call());
-        histogram.count(&record, &reply, desk.book());
+        histogram.count(&record, &reply, desk.book(), generator.breach());
         ledger
             .observe(&record, &reply, &before, desk.book())
             .map_err(|failure| format!("failed at call {made} of seed {seed}: {failure}"))?;
@@ -255,7 +255,7 @@ pub fn run(seed: u64, calls: u64) -> bool {
         ),
     }
     print!("{histogram}");
-    for label in histogram.missing() {
+    for label in histogram.rarer_than(1) {
         println!("never seen: {label}");
         well = false;
     }

@@ -133,6 +133,21 @@ impl Record {
         !matches!(self, Record::Length(_) | Record::Bytes { .. } | Record::Book | Record::Sum)
     }
 
+    /// Whether this is a call that refuses a book that is not sound.
+    pub fn asks_for_soundness(&self) -> bool {
+        matches!(
+            self,
+            Record::Clock(_)
+                | Record::Submit(_)
+                | Record::Mark { .. }
+                | Record::Block { .. }
+                | Record::Final { .. }
+                | Record::Plain
+                | Record::Listing
+                | Record::Sound
+        )
+    }
+
     /// Whether the record may change the buffer.
     pub fn may_change(&self) -> bool {
         matches!(

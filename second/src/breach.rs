@@ -1,0 +1,589 @@
+//! Books that break one clause of soundness and no other, in one of several ways.
+//!
+//! A clause with two sides (a version may be 0 or above 999) is broken on each side by a way of its
+//! own. All checks are right unless the clause is the check, so nothing but the clause itself can
+//! tell that the book is not sound.
+
+use crate::block::*;
+use crate::clause::cases;
+use crate::counts::{LATEST_MINUTE, LONGEST_LEAD};
+use crate::crafted::{filing, lawful_mark, sealed, slots_of};
+use crate::names;
+use crate::random::Random;
+use crate::sound::{SoundClause, MOST_BLOCKS};
+
+cases! {
+    /// Ways to break a sound book, in the order of the clauses. More than 1,001 blocks are not among
+    /// them: the buffer of a stream holds no more.
+    Breach {
+        PartOfBlock "length: part of a block",
+        NoBlock "length: no block at all",
+        OneBlock "length: the day block alone",
+        CheckOfDay "check of the day block",
+        CheckOfSender "check of a sender block",
+        CheckOfSeries "check of a series block",
+        CheckOfFree "check bytes in a free slot",
+        DayKind "day block: kind",
+        NBelow "day block: n below 92",
+        NBetween "day block: n between 92 and 100",
+        NAbove "day block: n above 100",
+        Lead "day block: lead above 1,440",
+        Clock "day block: clock above 1,500",
+        DayBytes6To7 "day block: bytes 6-7",
+        DayBytes16To23 "day block: bytes 16-23",
+        DayBytes56To507 "day block: bytes 56-507",
+        DayDigits "day block: day not eight digits",
+        Area "day block: area not an EIC",
+        AreaHyphen "day block: area ends in a hyphen",
+        Receiver "day block: receiver not an EIC",
+        ReceiverHyphen "day block: receiver ends in a hyphen",
+        FreeBeforeUsed "a free slot before a used one",
+        KindZero "a used slot of kind 0",
+        KindDay "a second day block",
+        KindUnknown "a used slot of no kind",
+        SenderVersionZero "sender: version 0",
+        SenderVersionAbove "sender: version above 999",
+        CountZero "sender: no series, count 0",
+        CountAbove "sender: more than 200 series, count right",
+        NetAbove "sender: net above 1,999,999,800",
+        NetBelow "sender: net below -1,999,999,800",
+        NetAboveN "sender: net at a position above n",
+        SeriesVersionZero "series: version 0",
+        SeriesVersionAbove "series: version above 999",
+        QuantityTooHigh "series: quantity above 9,999,999",
+        QuantityTopBit "series: quantity with its top bit set",
+        QuantityAboveN "series: quantity at a position above n",
+        MessageId "sender: message id malformed",
+        SeriesId "series: id malformed",
+        SenderBytes6To7 "sender: bytes 6-7",
+        SenderBytes64To107 "sender: bytes 64-107",
+        SenderN "sender: n",
+        SeriesN "series: n",
+        SenderDay "sender: day",
+        InArea "series: in area",
+        OutArea "series: out area",
+        SenderReceiver "sender: receiver",
+        ContractType "series: contract type",
+        Agreement "series: capacity agreement",
+        BusinessType "series: business type",
+        SenderEic "sender: not an EIC, in its series neither",
+        SenderHyphen "sender: ends in a hyphen, in its series too",
+        SenderTwice "two senders with one EIC",
+        SenderSlotZero "series: sender's slot 0",
+        SenderSlotOfSeries "series: sender's slot is a series'",
+        SenderSlotFree "series: sender's slot is free",
+        SenderSlotBeyond "series: sender's slot beyond the book",
+        PartiesEqual "series: both parties equal",
+        InParty "series: in party not an EIC",
+        InPartyHyphen "series: in party ends in a hyphen",
+        OutParty "series: out party not an EIC",
+        OutPartyHyphen "series: out party ends in a hyphen",
+        NeitherSender "series: neither party is its sender",
+        SeriesIdTwice "a sender's series id twice",
+        PairTwice "a sender's pair twice",
+        CountTooHigh "sender: count higher than that of its series",
+        CountTooLow "sender: count lower than that of its series",
+        StateZero "series: state 0",
+        StateAbove "series: state above 3",
+        First "series: first above n",
+        PartnerSender "series: partner is a sender's slot",
+        PartnerFree "series: partner is a free slot",
+        PartnerBeyond "series: partner beyond the book",
+    }
+}
+
+impl Breach {
+    /// The clause that the way breaks.
+    pub fn clause(self) -> SoundClause {
+        use SoundClause as Clause;
+        match self {
+            Breach::PartOfBlock => Clause::WholeBlocks,
+            Breach::NoBlock | Breach::OneBlock => Clause::BlockCount,
+            Breach::CheckOfDay | Breach::CheckOfSender | Breach::CheckOfSeries | Breach::CheckOfFree => Clause::Check,
+            Breach::DayKind => Clause::DayKind,
+            Breach::NBelow | Breach::NBetween | Breach::NAbove => Clause::DayN,
+            Breach::Lead => Clause::DayLead,
+            Breach::Clock => Clause::DayClock,
+            Breach::DayBytes6To7 | Breach::DayBytes16To23 | Breach::DayBytes56To507 => Clause::DayZeroBytes,
+            Breach::DayDigits => Clause::DayDigits,
+            Breach::Area | Breach::AreaHyphen => Clause::DayArea,
+            Breach::Receiver | Breach::ReceiverHyphen => Clause::DayReceiver,
+            Breach::FreeBeforeUsed => Clause::FreeBeforeUsed,
+            Breach::KindZero | Breach::KindDay | Breach::KindUnknown => Clause::Kind,
+            Breach::SenderVersionZero | Breach::SenderVersionAbove => Clause::SenderVersion,
+            Breach::CountZero | Breach::CountAbove => Clause::SenderCount,
+            Breach::NetAbove | Breach::NetBelow => Clause::NetRange,
+            Breach::NetAboveN => Clause::NetAboveN,
+            Breach::SeriesVersionZero | Breach::SeriesVersionAbove => Clause::SeriesVersion,
+            Breach::QuantityTooHigh | Breach::QuantityTopBit => Clause::QuantityRange,
+            Breach::QuantityAboveN => Clause::QuantityAboveN,
+            Breach::MessageId => Clause::MessageId,
+            Breach::SeriesId => Clause::SeriesId,
+            Breach::SenderBytes6To7 | Breach::SenderBytes64To107 => Clause::SenderZeroBytes,
+            Breach::SenderN => Clause::SenderN,
+            Breach::SeriesN => Clause::SeriesN,
+            Breach::SenderDay => Clause::SenderDay,
+            Breach::InArea => Clause::InArea,
+            Breach::OutArea => Clause::OutArea,
+            Breach::SenderReceiver => Clause::SenderReceiver,
+            Breach::ContractType => Clause::ContractType,
+            Breach::Agreement => Clause::Agreement,
+            Breach::BusinessType => Clause::BusinessType,
+            Breach::SenderEic | Breach::SenderHyphen => Clause::SenderEic,
+            Breach::SenderTwice => Clause::SenderTwice,
+            Breach::SenderSlotZero | Breach::SenderSlotOfSeries | Breach::SenderSlotFree | Breach::SenderSlotBeyond => {
+                Clause::SenderSlot
+            }
+            Breach::PartiesEqual => Clause::PartiesEqual,
+            Breach::InParty | Breach::InPartyHyphen => Clause::InParty,
+            Breach::OutParty | Breach::OutPartyHyphen => Clause::OutParty,
+            Breach::NeitherSender => Clause::NeitherSender,
+            Breach::SeriesIdTwice => Clause::SeriesIdTwice,
+            Breach::PairTwice => Clause::PairTwice,
+            Breach::CountTooHigh | Breach::CountTooLow => Clause::CountWrong,
+            Breach::StateZero | Breach::StateAbove => Clause::State,
+            Breach::First => Clause::First,
+            Breach::PartnerSender | Breach::PartnerFree | Breach::PartnerBeyond => Clause::Partner,
+        }
+    }
+
+    /// The clauses that must be broken along with it. A sender's EIC is always a party of its series,
+    /// so it cannot be spoilt without them; every other way breaks its own clause alone.
+    pub fn companions(self) -> u64 {
+        match self {
+            Breach::SenderEic | Breach::SenderHyphen => SoundClause::InParty.bit() | SoundClause::OutParty.bit(),
+            _ => 0,
+        }
+    }
+}
+
+/// From a sound book one that is broken in this way. Where the book has too little for it, senders
+/// and series are added first. Nothing if there is no room for them, or no position above n.
+pub fn break_book(random: &mut Random, book: &[u8], breach: Breach) -> Option<Vec<u8>> {
+    let mut pieces = Pieces::of(random, book)?;
+    match breach {
+        Breach::PartOfBlock => {
+            let keep = book.len() - random.between(1, BLOCK_BYTES - 1);
+            Some(book[..keep].to_vec())
+        }
+        Breach::NoBlock => Some(Vec::new()),
+        Breach::OneBlock => Some(book[..BLOCK_BYTES].to_vec()),
+        Breach::CheckOfDay => Some(pieces.wrong_check(random, 0)),
+        Breach::CheckOfSender => Some(pieces.wrong_check(random, pieces.owner)),
+        Breach::CheckOfSeries => Some(pieces.wrong_check(random, pieces.one)),
+        Breach::CheckOfFree => Some(pieces.wrong_check(random, pieces.free)),
+        _ => {
+            pieces.break_day(random, breach)?;
+            Some(sealed(pieces.list))
+        }
+    }
+}
+
+/// A sound book in pieces, with the slots that a breach may need: a sender that has two series at
+/// least, two of its series, another sender, and the lowest free slot.
+struct Pieces {
+    list: Vec<Block>,
+    n: usize,
+    owner: usize,
+    one: usize,
+    twin: usize,
+    other: usize,
+    free: usize,
+}
+
+impl Pieces {
+    fn of(random: &mut Random, book: &[u8]) -> Option<Self> {
+        let list: Vec<Block> = blocks(book).copied().collect();
+        let (n, free) = (usize::from(list[0][N]), list.iter().filter(|block| block[KIND] != 0).count());
+        let mut pieces = Pieces { list, n, owner: 0, one: 0, twin: 0, other: 0, free };
+        for _ in 0..2 {
+            if pieces.choose(random) {
+                return pieces.ensure_free(1).then_some(pieces);
+            }
+            let eic = names::valid_eic(random);
+            pieces.add_sender(random, &eic, 2)?;
+        }
+        pieces.choose(random).then_some(pieces).filter(|pieces| pieces.free < pieces.list.len())
+    }
+
+    /// Chooses the slots; tells whether the book has them.
+    fn choose(&mut self, random: &mut Random) -> bool {
+        let mut senders = slots_of(&self.list, KIND_SENDER);
+        random.shuffle(&mut senders);
+        let owner = senders.iter().copied().find(|&slot| u16_at(&self.list[slot], COUNT) > 1);
+        let other = senders.iter().copied().find(|&slot| Some(slot) != owner);
+        match (owner, other) {
+            (Some(owner), Some(other)) => {
+                let mut series = self.series_of(owner);
+                random.shuffle(&mut series);
+                (self.owner, self.other, self.one, self.twin) = (owner, other, series[0], series[1]);
+                true
+            }
+            _ => false,
+        }
+    }
+
+    fn series_of(&self, sender: usize) -> Vec<usize> {
+        let mut slots = slots_of(&self.list, KIND_SERIES);
+        slots.retain(|&slot| usize::from(u16_at(&self.list[slot], SENDER_SLOT)) == sender);
+        slots
+    }
+
+    /// Lengthens the book, if need be, so that it has so many free slots; tells whether it may.
+    fn ensure_free(&mut self, number: usize) -> bool {
+        let wanted = self.list.len().max(self.free + number);
+        if wanted <= MOST_BLOCKS {
+            self.list.resize(wanted, [0; BLOCK_BYTES]);
+        }
+        wanted <= MOST_BLOCKS
+    }
+
+    /// A sender with so many series, behind all used slots, and a free slot behind it. Its slot.
+    fn add_sender(&mut self, random: &mut Random, eic: &Field, count: usize) -> Option<usize> {
+        let partners: Vec<Field> = (0..count / 2 + 1).map(|_| names::valid_eic(random)).collect();
+        let filed = filing(random, &self.list[0], eic, &partners, count);
+        if !self.ensure_free(filed.len() + 1) {
+            return None;
+        }
+        let slot = self.free;
+        let series_slots: Vec<u16> = (1..=count).map(|number| (slot + number) as u16).collect();
+        for mut block in filed {
+            if block[KIND] == KIND_SERIES {
+                put_u16(&mut block, SENDER_SLOT, slot as u16);
+                put_mark(&mut block, lawful_mark(random, self.n, &series_slots));
+            }
+            self.list[self.free] = block;
+            self.free += 1;
+        }
+        Some(slot)
+    }
+
+    /// The book with one of the four check bytes of a block changed.
+    fn wrong_check(&self, random: &mut Random, place: usize) -> Vec<u8> {
+        let mut bytes = sealed(self.list.clone());
+        let at = place * BLOCK_BYTES + random.between(CHECK, BLOCK_BYTES - 1);
+        bytes[at] = other_byte(random, bytes[at]);
+        bytes
+    }
+
+    fn break_day(&mut self, random: &mut Random, breach: Breach) -> Option<()> {
+        let day = &mut self.list[0];
+        match breach {
+            Breach::DayKind => day[KIND] = random.pick(&[0, KIND_SENDER, KIND_SERIES, 4, 255]),
+            Breach::NBelow => self.set_n(random.pick(&[0, 1, 24, 91])),
+            Breach::NBetween => self.set_n(random.pick(&[93, 94, 95, 97, 98, 99])),
+            Breach::NAbove => self.set_n(random.pick(&[101, 104, 128, 255])),
+            Breach::Lead => put_u16(day, LEAD, random.pick(&[LONGEST_LEAD + 1, 65_535, 4_096])),
+            Breach::Clock => put_u16(day, CLOCK, random.pick(&[LATEST_MINUTE + 1, 65_535, 32_768])),
+            Breach::DayBytes6To7 => day[random.between(6, 7)] = other_byte(random, 0),
+            Breach::DayBytes16To23 => day[random.between(16, 23)] = other_byte(random, 0),
+            Breach::DayBytes56To507 => {
+                let at = if random.percent(50) { random.pick(&[56, 107, 108, 507]) } else { random.between(56, 507) };
+                day[at] = other_byte(random, 0);
+            }
+            Breach::DayDigits => self.set_digit(random.below(DAY_DIGITS), random.pick(b"/:A \0\xff")),
+            Breach::Area => self.set_area(&names::invalid_eic(random)),
+            Breach::AreaHyphen => self.set_area(&names::hyphen_eic(random)),
+            Breach::Receiver => self.set_receiver(&names::invalid_eic(random)),
+            Breach::ReceiverHyphen => self.set_receiver(&names::hyphen_eic(random)),
+            _ => return self.break_slots(random, breach),
+        }
+        Some(())
+    }
+
+    /// Breaches in which slots come to be used, or stand elsewhere.
+    fn break_slots(&mut self, random: &mut Random, breach: Breach) -> Option<()> {
+        let eic = names::valid_eic(random);
+        match breach {
+            Breach::FreeBeforeUsed => self.insert_free(random.between(1, self.free - 1)),
+            Breach::KindZero => self.list[self.free][random.between(1, CHECK - 1)] = other_byte(random, 0),
+            Breach::KindDay => self.list[self.free] = self.list[0],
+            Breach::KindUnknown => {
+                self.list[self.free] = self.list[random.pick(&[self.one, self.other])];
+                self.list[self.free][KIND] = random.pick(&[4, 5, 128, 255]);
+            }
+            Breach::CountZero => {
+                self.add_sender(random, &eic, 0)?;
+            }
+            Breach::CountAbove => {
+                let count = random.pick(&[201, 201, 202, 257]);
+                self.add_sender(random, &eic, count)?;
+            }
+            Breach::SenderTwice => {
+                let taken = field(&self.list[random.pick(&[self.owner, self.other])], SENDER);
+                let count = random.between(1, 3);
+                self.add_sender(random, &taken, count)?;
+            }
+            _ => return self.break_sender(random, breach),
+        }
+        Some(())
+    }
+
+    fn break_sender(&mut self, random: &mut Random, breach: Breach) -> Option<()> {
+        let any_value = VALUES + 4 * random.below(self.n);
+        let above_n = self.value_above_n(random);
+        let n = self.n;
+        let sender = &mut self.list[self.owner];
+        let count = u16_at(sender, COUNT);
+        match breach {
+            Breach::SenderVersionZero => put_u16(sender, VERSION, 0),
+            Breach::SenderVersionAbove => put_u16(sender, VERSION, unlawful_version(random)),
+            Breach::NetAbove => put_u32(sender, any_value, random.pick(&[HIGHEST_NET + 1, i32::MAX]) as u32),
+            Breach::NetBelow => put_u32(sender, any_value, random.pick(&[-HIGHEST_NET - 1, i32::MIN]) as u32),
+            Breach::NetAboveN => put_u32(sender, above_n?, some_value(random)),
+            Breach::MessageId => put_field(sender, ID, &names::malformed_id(random)),
+            Breach::SenderBytes6To7 => sender[random.between(6, 7)] = other_byte(random, 0),
+            Breach::SenderBytes64To107 => {
+                let at = if random.percent(40) { random.pick(&[64, 71, 72, 107]) } else { random.between(64, 107) };
+                sender[at] = other_byte(random, 0);
+            }
+            Breach::SenderN => sender[N] = other_n(random, n),
+            Breach::SenderDay => {
+                let at = DAY_IN_SENDER + random.below(DAY_DIGITS);
+                sender[at] = b'0' + (sender[at] - b'0' + random.between(1, 9) as u8) % 10;
+            }
+            Breach::SenderReceiver => put_field(sender, RECEIVER, &names::valid_eic(random)),
+            // A count beyond 200 would break its range as well.
+            Breach::CountTooHigh if count == MOST_SERIES => return None,
+            Breach::CountTooHigh => put_u16(sender, COUNT, count + 1),
+            Breach::CountTooLow => put_u16(sender, COUNT, count - 1),
+            Breach::SenderEic => self.set_sender(&names::invalid_eic(random)),
+            Breach::SenderHyphen => self.set_sender(&names::hyphen_eic(random)),
+            _ => return self.break_series(random, breach),
+        }
+        Some(())
+    }
+
+    fn break_series(&mut self, random: &mut Random, breach: Breach) -> Option<()> {
+        let any_value = VALUES + 4 * random.below(self.n);
+        let above_n = self.value_above_n(random);
+        let n = self.n;
+        let series = &mut self.list[self.one];
+        match breach {
+            Breach::SeriesVersionZero => put_u16(series, VERSION, 0),
+            Breach::SeriesVersionAbove => put_u16(series, VERSION, unlawful_version(random)),
+            Breach::QuantityTooHigh => {
+                let value = random.pick(&[HIGHEST_QUANTITY + 1, i32::MAX as u32, 1 << 24]);
+                put_u32(series, any_value, value);
+            }
+            Breach::QuantityTopBit => put_u32(series, any_value, random.pick(&[1 << 31, u32::MAX, (1 << 31) + 5])),
+            Breach::QuantityAboveN => put_u32(series, above_n?, some_value(random)),
+            Breach::SeriesId => put_field(series, ID, &names::malformed_id(random)),
+            Breach::SeriesN => series[N] = other_n(random, n),
+            Breach::InArea => put_field(series, IN_AREA, &names::valid_eic(random)),
+            Breach::OutArea => put_field(series, OUT_AREA, &names::valid_eic(random)),
+            Breach::ContractType => series[CONTRACT_TYPE] = other_byte(random, 0),
+            Breach::Agreement => series[AGREEMENT + random.below(16)] = other_byte(random, 0),
+            Breach::BusinessType => series[BUSINESS_TYPE] = other_byte(random, INTERNAL_TRADE),
+            Breach::StateZero => series[STATE] = 0,
+            Breach::StateAbove => series[STATE] = random.pick(&[4, 5, 128, 255]),
+            Breach::First => series[FIRST] = if random.percent(50) { n + 1 } else { random.between(n + 1, 255) } as u8,
+            _ => return self.break_between(random, breach),
+        }
+        Some(())
+    }
+
+    /// Breaches that set several blocks beside each other.
+    fn break_between(&mut self, random: &mut Random, breach: Breach) -> Option<()> {
+        match breach {
+            Breach::SenderSlotZero => self.orphan(0),
+            Breach::SenderSlotOfSeries => self.orphan(random.pick(&[self.one, self.twin])),
+            Breach::SenderSlotFree => self.orphan(self.free),
+            Breach::SenderSlotBeyond => self.orphan(self.beyond(random, self.owner)),
+            Breach::PartnerSender => self.set_partner(random.pick(&[self.owner, self.other])),
+            Breach::PartnerFree => self.set_partner(self.free),
+            Breach::PartnerBeyond => self.set_partner(self.beyond(random, self.twin)),
+            Breach::PartiesEqual => {
+                let eic = field(&self.list[self.owner], SENDER);
+                put_field(&mut self.list[self.one], IN_PARTY, &eic);
+                put_field(&mut self.list[self.one], OUT_PARTY, &eic);
+            }
+            Breach::InParty => self.set_other_party(IN_PARTY, &names::invalid_eic(random))?,
+            Breach::InPartyHyphen => self.set_other_party(IN_PARTY, &names::hyphen_eic(random))?,
+            Breach::OutParty => self.set_other_party(OUT_PARTY, &names::invalid_eic(random))?,
+            Breach::OutPartyHyphen => self.set_other_party(OUT_PARTY, &names::hyphen_eic(random))?,
+            Breach::NeitherSender => {
+                let at = self.party_that_is_sender(self.one);
+                put_field(&mut self.list[self.one], at, &names::valid_eic(random));
+            }
+            Breach::SeriesIdTwice => self.copy_from_twin(ID..ID + 16),
+            Breach::PairTwice => self.copy_from_twin(IN_PARTY..OUT_PARTY + 16),
+            _ => unreachable!("every other breach was made before"),
+        }
+        Some(())
+    }
+
+    /// An unlawful n in every block; nothing stands above it.
+    fn set_n(&mut self, n: u8) {
+        for block in self.list.iter_mut().take(self.free) {
+            block[N] = n;
+            if block[KIND] != KIND_DAY {
+                let end = (VALUES + 4 * usize::from(n)).min(CHECK);
+                block[end..CHECK].fill(0);
+            }
+            if block[KIND] == KIND_SERIES {
+                block[FIRST] = block[FIRST].min(n);
+            }
+        }
+    }
+
+    fn set_digit(&mut self, digit: usize, byte: u8) {
+        self.list[0][DAY_IN_DAY_BLOCK + digit] = byte;
+        for slot in slots_of(&self.list, KIND_SENDER) {
+            self.list[slot][DAY_IN_SENDER + digit] = byte;
+        }
+    }
+
+    fn set_area(&mut self, area: &Field) {
+        put_field(&mut self.list[0], AREA, area);
+        for slot in slots_of(&self.list, KIND_SERIES) {
+            put_field(&mut self.list[slot], IN_AREA, area);
+            put_field(&mut self.list[slot], OUT_AREA, area);
+        }
+    }
+
+    fn set_receiver(&mut self, receiver: &Field) {
+        put_field(&mut self.list[0], RECEIVER, receiver);
+        for slot in slots_of(&self.list, KIND_SENDER) {
+            put_field(&mut self.list[slot], RECEIVER, receiver);
+        }
+    }
+
+    /// Another code for the sender, in its block and wherever it is a party of its own series.
+    fn set_sender(&mut self, eic: &Field) {
+        for slot in self.series_of(self.owner) {
+            let at = self.party_that_is_sender(slot);
+            put_field(&mut self.list[slot], at, eic);
+        }
+        put_field(&mut self.list[self.owner], SENDER, eic);
+    }
+
+    /// Which of a series' parties its sender is.
+    fn party_that_is_sender(&self, slot: usize) -> usize {
+        let owner = usize::from(u16_at(&self.list[slot], SENDER_SLOT));
+        if field(&self.list[slot], IN_PARTY) == field(&self.list[owner], SENDER) {
+            IN_PARTY
+        } else {
+            OUT_PARTY
+        }
+    }
+
+    /// Another code for the in or out party of a series whose sender is the other party.
+    fn set_other_party(&mut self, at: usize, eic: &Field) -> Option<()> {
+        let slots = slots_of(&self.list, KIND_SERIES);
+        let slot = slots.into_iter().find(|&slot| self.party_that_is_sender(slot) != at)?;
+        put_field(&mut self.list[slot], at, eic);
+        Some(())
+    }
+
+    /// A free slot at this place; all blocks from there on move up, with all that names their slots.
+    fn insert_free(&mut self, place: usize) {
+        self.list.remove(self.free);
+        self.list.insert(place, [0; BLOCK_BYTES]);
+        for block in self.list.iter_mut().filter(|block| block[KIND] == KIND_SERIES) {
+            for at in [SENDER_SLOT, PARTNER] {
+                let slot = u16_at(block, at);
+                put_u16(block, at, if usize::from(slot) >= place { slot + 1 } else { slot });
+            }
+        }
+    }
+
+    /// A series names this as its sender's slot. The sender that loses it counts one less.
+    fn orphan(&mut self, slot: usize) {
+        let count = u16_at(&self.list[self.owner], COUNT);
+        put_u16(&mut self.list[self.owner], COUNT, count - 1);
+        put_u16(&mut self.list[self.one], SENDER_SLOT, slot as u16);
+    }
+
+    fn set_partner(&mut self, slot: usize) {
+        put_u16(&mut self.list[self.one], PARTNER, slot as u16);
+    }
+
+    /// A slot that the book has not: the first, the last, or one that shares its lower bits with this.
+    fn beyond(&self, random: &mut Random, slot: usize) -> usize {
+        let blocks = self.list.len();
+        let alike = (1..).map(|times| slot + 256 * times).find(|&alike| alike >= blocks).unwrap_or(blocks);
+        random.pick(&[blocks, 65_535, alike])
+    }
+
+    fn copy_from_twin(&mut self, bytes: std::ops::Range<usize>) {
+        let copied = self.list[self.twin][bytes.clone()].to_vec();
+        self.list[self.one][bytes].copy_from_slice(&copied);
+    }
+
+    /// Where a value at some position above n stands, if there is one.
+    fn value_above_n(&self, random: &mut Random) -> Option<usize> {
+        (self.n < POSITIONS).then(|| VALUES + 4 * random.between(self.n, POSITIONS - 1))
+    }
+}
+
+/// A byte other than the one given.
+fn other_byte(random: &mut Random, byte: u8) -> u8 {
+    byte.wrapping_add(random.between(1, 255) as u8)
+}
+
+/// A version above 999.
+fn unlawful_version(random: &mut Random) -> u16 {
+    random.pick(&[HIGHEST_VERSION + 1, 1_024, 65_535])
+}
+
+/// A value other than 0.
+fn some_value(random: &mut Random) -> u32 {
+    random.pick(&[1, 1 << 31, 45_000, u32::MAX])
+}
+
+fn other_n(random: &mut Random, n: usize) -> u8 {
+    let other = random.pick(&[92u8, 96, 100, 0, 255, 91]);
+    if usize::from(other) == n {
+        93
+    } else {
+        other
+    }
+}
+
+#[cfg(test)]
+mod tests {
+    use super::*;
+    use crate::crafted::{sound_book, Shape};
+    use crate::sound::{broken_clauses, is_sound};
+
+    #[test]
+    fn each_breach_breaks_its_clause_alone() {
+        let mut random = Random::new(7);
+        let pool: Vec<Field> = (0..260).map(|_| names::valid_eic(&mut random)).collect();
+        let mut made = vec![0; Breach::ALL.len()];
+        for round in 0..200 {
+            let shape = if round % 50 == 0 {
+                Shape { senders: 3, fewest_series: 150, most_series: 200, free_slots: round % 7 }
+            } else {
+                Shape { senders: round % 4, fewest_series: 1, most_series: 5, free_slots: round % 3 }
+            };
+            let book = sound_book(&mut random, &pool, &shape);
+            assert!(is_sound(&book));
+            for &breach in Breach::ALL {
+                if let Some(broken) = break_book(&mut random, &book, breach) {
+                    let set = broken_clauses(&broken);
+                    assert_eq!(SoundClause::first(set), Some(breach.clause()), "{}", breach.text());
+                    assert_eq!(set & !breach.companions(), breach.clause().bit(), "{}", breach.text());
+                    made[breach as usize] += 1;
+                }
+            }
+        }
+        for (breach, count) in Breach::ALL.iter().zip(made) {
+            assert!(count > 100, "{}: {count}", breach.text());
+        }
+    }
+
+    #[test]
+    fn a_wrong_check_is_all_that_is_wrong() {
+        let mut random = Random::new(8);
+        let pool: Vec<Field> = (0..20).map(|_| names::valid_eic(&mut random)).collect();
+        let shape = Shape { senders: 2, fewest_series: 1, most_series: 3, free_slots: 1 };
+        let book = sound_book(&mut random, &pool, &shape);
+        for breach in [Breach::CheckOfDay, Breach::CheckOfSender, Breach::CheckOfSeries, Breach::CheckOfFree] {
+            let broken = break_book(&mut random, &book, breach).expect("the book is rich enough");
+            assert!(!is_sound(&broken));
+            assert!(is_sound(&sealed(blocks(&broken).copied().collect())), "{}", breach.text());
+        }
+    }
+}

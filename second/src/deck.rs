@@ -1,0 +1,85 @@
+//! Cases dealt like cards: each comes once, in random order, before one comes again. So the rarest
+//! of many cases is as frequent as any other.
+
+use crate::random::Random;
+
+pub struct Deck<T> {
+    cards: Vec<T>,
+    left: Vec<T>,
+}
+
+impl<T: Copy> Deck<T> {
+    pub fn of(cards: &[T]) -> Self {
+        assert!(!cards.is_empty(), "there must be something to deal");
+        Deck { cards: cards.to_vec(), left: Vec::new() }
+    }
+
+    /// The next card.
+    pub fn deal(&mut self, random: &mut Random) -> T {
+        self.refill(random);
+        self.left.pop().expect("just refilled")
+    }
+
+    /// The next card of which something can be made, with what was made of it. Cards that do not
+    /// serve stay on top for the next time; when none serves, one more round is put below them.
+    pub fn deal_serving<M>(
+        &mut self,
+        random: &mut Random,
+        mut make: impl FnMut(&mut Random, T) -> Option<M>,
+    ) -> Option<(T, M)> {
+        for _ in 0..2 {
+            for place in (0..self.left.len()).rev() {
+                let card = self.left[place];
+                if let Some(made) = make(random, card) {
+                    self.left.remove(place);
+                    return Some((card, made));
+                }
+            }
+            if self.left.len() < self.cards.len() {
+                self.put_round_below(random);
+            }
+        }
+        None
+    }
+
+    fn refill(&mut self, random: &mut Random) {
+        if self.left.is_empty() {
+            self.put_round_below(random);
+        }
+    }
+
+    fn put_round_below(&mut self, random: &mut Random) {
+        let mut round = self.cards.clone();
+        random.shuffle(&mut round);
+        round.append(&mut self.left);
+        self.left = round;
+    }
+}
+
+#[cfg(test)]
+mod tests {
+    use super::*;
+
+    #[test]
+    fn each_card_comes_once_before_one_comes_again() {
+        let mut random = Random::new(3);
+        let mut deck = Deck::of(&[1, 2, 3, 4]);
+        for _ in 0..5 {
+            let mut dealt: Vec<i32> = (0..4).map(|_| deck.deal(&mut random)).collect();
+            dealt.sort_unstable();
+            assert_eq!(dealt, [1, 2, 3, 4]);
+        }
+    }
+
+    #[test]
+    fn a_card_that_does_not_serve_comes_as_soon_as_it_serves() {
+        let mut random = Random::new(3);
+        let mut deck = Deck::of(&[1, 2, 3, 4]);
+        for _ in 0..9 {
+            let (card, _) = deck.deal_serving(&mut random, |_, card| (card != 3).then_some(())).unwrap();
+            assert_ne!(card, 3);
+        }
+        assert_eq!(deck.deal(&mut random), 3);
+        assert!(deck.deal_serving(&mut random, |_, card| (card > 4).then_some(())).is_none());
+    }
+}

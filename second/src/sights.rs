@@ -1,0 +1,227 @@
+//! Things worth seeing that no number tells.
+
+use crate::block::*;
+use crate::book::SoundBook;
+use crate::clause::cases;
+use crate::counts::Position;
+use crate::crafted::sealed;
+use crate::desk::Reply;
+use crate::identifier::{fails_by_hyphen_alone, is_valid_eic};
+use crate::sound::MOST_BLOCKS;
+use crate::stream::Record;
+use crate::submission::{submit, Broken, Verdict};
+
+cases! {
+    /// What a call showed beside its number.
+    Sight {
+        AcceptedN92 "accepted, n 92",
+        AcceptedN96 "accepted, n 96",
+        AcceptedN100 "accepted, n 100",
+        NewSender "accepted, new sender",
+        NothingChanged "accepted, nothing changed",
+        Series21To99 "accepted, 21 to 99 series",
+        Series100To199 "accepted, 100 to 199 series",
+        Series200 "accepted, 200 series",
+        AllBlocksUsed "accepted, all 1,001 blocks used",
+        NetHighest "accepted, a net at its upper limit",
+        NetNextToHighest "accepted, a net one below its upper limit",
+        NetLowest "accepted, a net at its lower limit",
+        NetNextToLowest "accepted, a net one above its lower limit",
+        Version256To998 "accepted, version 256 to 998",
+        Version999 "accepted, version 999",
+        RefusedAtSeries21To199 "refused at series 21 to 199",
+        TopBitBelowTooHigh "rule 11, and 12 at a higher position",
+        TooHighBelowTopBit "rule 12, and 11 at a higher position",
+        QuantityAndAboveN "rule 11 or 12, and 13",
+        QuantityAboveClosed "rule 11, 12 or 13, and 14 at a lower position",
+        LaterSeriesEarlierRule "a later series breaks an earlier rule",
+        HyphenArea "open refused for the area's hyphen",
+        HyphenReceiver "open refused for the receiver's hyphen",
+        HyphenSender "rule 4 for the hyphen",
+        HyphenInParty "rule 8 for the in party's hyphen",
+        HyphenOutParty "rule 8 for the out party's hyphen",
+        HyphenEic "eic refused for its hyphen",
+        MarkState1 "mark in state 1",
+        MarkState2 "mark in state 2",
+        MarkState3 "mark in state 3",
+        FinalAbove0 "final with a value above 0",
+        FinalSellerMissing "final with a missing seller series",
+        PlainYes "plain run says yes",
+        PlainNo "plain run says no",
+        ListingPrinted "listing printed",
+        ListingTooLong "listing too long",
+        ListingNotSound "listing not sound",
+        SoundYes "sound yes",
+        SoundNo "sound no",
+        ReaderSeries "reader gives a series",
+        ReaderEmpty "reader gives an empty part",
+        WalkWhole "walk over a whole message",
+        WalkNothing "walk over nothing",
+        EicValid "eic valid",
+        EicInvalid "eic invalid",
+        IdWellFormed "id well formed",
+        IdMalformed "id malformed",
+        CheckRight "check right",
+        CheckWrong "check wrong",
+        Seal "seal",
+        Code "code",
+    }
+}
+
+/// What one call shows; the book is the one after the call, which a refusal has left alone.
+pub fn sights(record: &Record, reply: &Reply, book: &[u8]) -> Vec<Sight> {
+    match (record, reply) {
+        (Record::Submit(message), Reply::Submit(verdict)) => match verdict.broken {
+            None => acceptance(message, book),
+            Some(broken) => refusal(message, verdict, broken, book),
+        },
+        (Record::Open { area, receiver, .. }, Reply::Open(21)) => refused_opening(area, receiver),
+        (Record::Eic(text), Reply::Eic(false)) if fails_by_hyphen_alone(text) => {
+            vec![Sight::EicInvalid, Sight::HyphenEic]
+        }
+        (Record::Final { out_party, in_party, .. }, Reply::Final { number: 0, value }) => {
+            final_given(out_party, in_party, *value, book)
+        }
+        _ => plain_sight(reply).into_iter().collect(),
+    }
+}
+
+/// The one thing a reply shows by itself.
+fn plain_sight(reply: &Reply) -> Option<Sight> {
+    let either = |yes: bool, if_yes: Sight, if_no: Sight| Some(if yes { if_yes } else { if_no });
+    match reply {
+        Reply::Mark { mark, .. } => match mark.state {
+            1 => Some(Sight::MarkState1),
+            2 => Some(Sight::MarkState2),
+            3 => Some(Sight::MarkState3),
+            _ => None,
+        },
+        Reply::Plain { number: 0, yes } => either(*yes, Sight::PlainYes, Sight::PlainNo),
+        Reply::Listing(text) => Some(match text.as_slice() {
+            b"too long\n" => Sight::ListingTooLong,
+            b"not sound\n" => Sight::ListingNotSound,
+            _ => Sight::ListingPrinted,
+        }),
+        Reply::Sound(yes) => either(*yes, Sight::SoundYes, Sight::SoundNo),
+        Reply::Reader(series) => either(series.is_empty(), Sight::ReaderEmpty, Sight::ReaderSeries),
+        Reply::Walk { count, .. } => either(*count == 0, Sight::WalkNothing, Sight::WalkWhole),
+        Reply::Eic(yes) => either(*yes, Sight::EicValid, Sight::EicInvalid),
+        Reply::Id(yes) => either(*yes, Sight::IdWellFormed, Sight::IdMalformed),
+        Reply::Check { right, .. } => either(*right, Sight::CheckRight, Sight::CheckWrong),
+        Reply::Seal(_) => Some(Sight::Seal),
+        Reply::Code(_) => Some(Sight::Code),
+        _ => None,
+    }
+}
+
+/// The sights of a list whose condition holds.
+fn held(list: &[(bool, Sight)]) -> Vec<Sight> {
+    list.iter().filter(|(holds, _)| *holds).map(|&(_, sight)| sight).collect()
+}
+
+fn acceptance(message: &[u8], book: &[u8]) -> Vec<Sight> {
+    let head = block_at(message, 0);
+    let (n, version, series) = (head[N], u16_at(head, VERSION), blocks(message).len() - 1);
+    let sender = field(head, SENDER);
+    let kept = blocks(book).skip(1).find(|block| block[KIND] == KIND_SENDER && field(block, SENDER) == sender);
+    let has_net = |limit: i32| kept.map_or(false, |block| nets(block).any(|net| net == limit));
+    let unchanged = blocks(message).skip(1).all(|series| u16_at(series, VERSION) != version);
+    let full = book.len() == MOST_BLOCKS * BLOCK_BYTES && block_at(book, MOST_BLOCKS - 1)[KIND] != 0;
+    held(&[
+        (n == 92, Sight::AcceptedN92),
+        (n == 96, Sight::AcceptedN96),
+        (n == 100, Sight::AcceptedN100),
+        (version == 1, Sight::NewSender),
+        (unchanged, Sight::NothingChanged),
+        ((21..=99).contains(&series), Sight::Series21To99),
+        ((100..=199).contains(&series), Sight::Series100To199),
+        (series == 200, Sight::Series200),
+        (full, Sight::AllBlocksUsed),
+        (has_net(HIGHEST_NET), Sight::NetHighest),
+        (has_net(HIGHEST_NET - 1), Sight::NetNextToHighest),
+        (has_net(-HIGHEST_NET), Sight::NetLowest),
+        (has_net(1 - HIGHEST_NET), Sight::NetNextToLowest),
+        ((256..HIGHEST_VERSION).contains(&version), Sight::Version256To998),
+        (version == HIGHEST_VERSION, Sight::Version999),
+    ])
+}
+
+fn refusal(message: &[u8], verdict: &Verdict, broken: Broken, book: &[u8]) -> Vec<Sight> {
+    if verdict.series == 0 {
+        let sender = message.get(SENDER..SENDER + 16);
+        let hyphen = broken == Broken::SenderEic && sender.map_or(false, fails_by_hyphen_alone);
+        return held(&[(hyphen, Sight::HyphenSender)]);
+    }
+    let series = block_at(message, usize::from(verdict.series));
+    let (in_party, out_party) = pair(series);
+    let mut seen = held(&[
+        ((21..=199).contains(&verdict.series), Sight::RefusedAtSeries21To199),
+        (broken == Broken::InParty && fails_by_hyphen_alone(&in_party), Sight::HyphenInParty),
+        (broken == Broken::OutParty && fails_by_hyphen_alone(&out_party), Sight::HyphenOutParty),
+        (later_series_breaks_earlier_rule(message, verdict, book), Sight::LaterSeriesEarlierRule),
+    ]);
+    if (11..=13).contains(&verdict.number()) {
+        seen.extend(mixed_quantities(message, verdict, book));
+    }
+    seen
+}
+
+/// What else the quantities of the refused series break, beside the rule of 11 to 13 that decided.
+fn mixed_quantities(message: &[u8], verdict: &Verdict, book: &[u8]) -> Vec<Sight> {
+    let series = block_at(message, usize::from(verdict.series));
+    let n = u16::from(series[N]);
+    let at = |position: u16| quantity(series, Position(position));
+    let above = || (verdict.position.0 + 1)..=n;
+    let top_bit = above().any(|position| at(position) >> 31 != 0);
+    let too_high = above().any(|position| at(position) > HIGHEST_QUANTITY && at(position) >> 31 == 0);
+    let above_n = (n + 1..=100).any(|position| at(position) != 0);
+    let number = verdict.number();
+    held(&[
+        (number == 11 && too_high, Sight::TopBitBelowTooHigh),
+        (number == 12 && top_bit, Sight::TooHighBelowTopBit),
+        (number != 13 && above_n, Sight::QuantityAndAboveN),
+        (closed_before(message, verdict, book), Sight::QuantityAboveClosed),
+    ])
+}
+
+/// Whether a closed position below the one that decided differs from what is kept.
+fn closed_before(message: &[u8], verdict: &Verdict, book: &[u8]) -> bool {
+    let series = block_at(message, usize::from(verdict.series));
+    let sound = match SoundBook::of(book) {
+        None => return false,
+        Some(sound) => sound,
+    };
+    let kept = sound.find_series(&field(block_at(message, 0), SENDER), &field(series, ID)).map(|(_, block)| block);
+    (1..verdict.position.0).map(Position).any(|position| {
+        position.is_closed(sound.clock(), sound.lead())
+            && quantity(series, position) != kept.map_or(0, |block| quantity(block, position))
+    })
+}
+
+/// Whether the series behind the refused one, filed without those before them, would be refused by a
+/// lower rule.
+fn later_series_breaks_earlier_rule(message: &[u8], verdict: &Verdict, book: &[u8]) -> bool {
+    let mut list: Vec<Block> = blocks(message).copied().collect();
+    list.drain(1..=usize::from(verdict.series));
+    let count = list.len() as u16 - 1;
+    put_u16(&mut list[0], COUNT, count);
+    let later = submit(&mut book.to_vec(), &sealed(list));
+    later.series > 0 && later.number() < verdict.number()
+}
+
+fn refused_opening(area: &[u8], receiver: &[u8]) -> Vec<Sight> {
+    held(&[
+        (fails_by_hyphen_alone(area) && is_valid_eic(receiver), Sight::HyphenArea),
+        (fails_by_hyphen_alone(receiver) && is_valid_eic(area), Sight::HyphenReceiver),
+    ])
+}
+
+fn final_given(out_party: &[u8], in_party: &[u8], value: u32, book: &[u8]) -> Vec<Sight> {
+    let filed_by_seller = blocks(book).skip(1).any(|block| {
+        block[KIND] == KIND_SERIES
+            && field(block, OUT_PARTY) == *out_party
+            && field(block, IN_PARTY) == *in_party
+            && field(block_at(book, usize::from(u16_at(block, SENDER_SLOT))), SENDER) == *out_party
+    });
+    held(&[(value > 0, Sight::FinalAbove0), (!filed_by_seller, Sight::FinalSellerMissing)])
+}
