@@ -8,6 +8,7 @@ use crate::clause::cases;
 use crate::counts::{Minute, Position};
 use crate::names;
 use crate::random::Random;
+use crate::stream::MOST_MESSAGE_BYTES;
 
 /// A message in the making: the sender block, then its series, not yet sealed.
 pub struct Draft {
@@ -86,7 +87,10 @@ impl Draft {
             let parties = pair(block);
             if slot == Some(usize::from(u16_at(block, SENDER_SLOT))) {
                 draft.stored.push(field(block, ID));
-                draft.blocks.push(*block);
+                // A book that is not sound may hold more of a sender than a record can carry.
+                if draft.blocks.len() < MOST_MESSAGE_BYTES / BLOCK_BYTES {
+                    draft.blocks.push(*block);
+                }
             } else if parties.0 == sender || parties.1 == sender {
                 theirs.insert(parties, block);
             }

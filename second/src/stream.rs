@@ -228,6 +228,8 @@ impl Record {
     /// Writes the record as it stands in a stream.
     pub fn write_to(&self, output: &mut impl Write) -> io::Result<()> {
         let body = self.body();
+        let (fewest, most) = body_limits(self.tag()).expect("a record has a known tag");
+        assert!((fewest..=most).contains(&body.len()), "a record of {} bytes would be malformed", body.len());
         output.write_all(&[self.tag()])?;
         output.write_all(&(body.len() as u32).to_le_bytes())?;
         output.write_all(&body)
