@@ -270,11 +270,11 @@ impl Pieces {
         let day = &mut self.list[0];
         match breach {
             Breach::DayKind => day[KIND] = random.pick(&[0, KIND_SENDER, KIND_SERIES, 4, 255]),
-            Breach::NBelow => self.set_n(random.pick(&[0, 1, 24, 91])),
+            Breach::NBelow => self.set_n(mostly(random, 91, &[0, 1, 24])),
             Breach::NBetween => self.set_n(random.pick(&[93, 94, 95, 97, 98, 99])),
-            Breach::NAbove => self.set_n(random.pick(&[101, 104, 128, 255])),
-            Breach::Lead => put_u16(day, LEAD, random.pick(&[LONGEST_LEAD + 1, 65_535, 4_096])),
-            Breach::Clock => put_u16(day, CLOCK, random.pick(&[LATEST_MINUTE + 1, 65_535, 32_768])),
+            Breach::NAbove => self.set_n(mostly(random, 101, &[104, 128, 255])),
+            Breach::Lead => put_u16(day, LEAD, mostly(random, LONGEST_LEAD + 1, &[4_096, 65_535])),
+            Breach::Clock => put_u16(day, CLOCK, mostly(random, LATEST_MINUTE + 1, &[32_768, 65_535])),
             Breach::DayBytes6To7 => day[random.between(6, 7)] = other_byte(random, 0),
             Breach::DayBytes16To23 => day[random.between(16, 23)] = other_byte(random, 0),
             Breach::DayBytes56To507 => {
@@ -306,7 +306,7 @@ impl Pieces {
                 self.add_sender(random, &eic, 0)?;
             }
             Breach::CountAbove => {
-                let count = random.pick(&[201, 201, 202, 257]);
+                let count = mostly(random, usize::from(MOST_SERIES) + 1, &[202, 257]);
                 self.add_sender(random, &eic, count)?;
             }
             Breach::SenderTwice => {
@@ -328,8 +328,8 @@ impl Pieces {
         match breach {
             Breach::SenderVersionZero => put_u16(sender, VERSION, 0),
             Breach::SenderVersionAbove => put_u16(sender, VERSION, unlawful_version(random)),
-            Breach::NetAbove => put_u32(sender, any_value, random.pick(&[HIGHEST_NET + 1, i32::MAX]) as u32),
-            Breach::NetBelow => put_u32(sender, any_value, random.pick(&[-HIGHEST_NET - 1, i32::MIN]) as u32),
+            Breach::NetAbove => put_u32(sender, any_value, mostly(random, HIGHEST_NET + 1, &[i32::MAX]) as u32),
+            Breach::NetBelow => put_u32(sender, any_value, mostly(random, -HIGHEST_NET - 1, &[i32::MIN]) as u32),
             Breach::NetAboveN => put_u32(sender, above_n?, some_value(random)),
             Breach::MessageId => put_field(sender, ID, &names::malformed_id(random)),
             Breach::SenderBytes6To7 => sender[random.between(6, 7)] = other_byte(random, 0),
@@ -363,7 +363,7 @@ impl Pieces {
             Breach::SeriesVersionZero => put_u16(series, VERSION, 0),
             Breach::SeriesVersionAbove => put_u16(series, VERSION, unlawful_version(random)),
             Breach::QuantityTooHigh => {
-                let value = random.pick(&[HIGHEST_QUANTITY + 1, i32::MAX as u32, 1 << 24]);
+                let value = mostly(random, HIGHEST_QUANTITY + 1, &[i32::MAX as u32, 1 << 24]);
                 put_u32(series, any_value, value);
             }
             Breach::QuantityTopBit => put_u32(series, any_value, random.pick(&[1 << 31, u32::MAX, (1 << 31) + 5])),
@@ -376,8 +376,8 @@ impl Pieces {
             Breach::Agreement => series[AGREEMENT + random.below(16)] = other_byte(random, 0),
             Breach::BusinessType => series[BUSINESS_TYPE] = other_byte(random, INTERNAL_TRADE),
             Breach::StateZero => series[STATE] = 0,
-            Breach::StateAbove => series[STATE] = random.pick(&[4, 5, 128, 255]),
-            Breach::First => series[FIRST] = if random.percent(50) { n + 1 } else { random.between(n + 1, 255) } as u8,
+            Breach::StateAbove => series[STATE] = mostly(random, 4, &[5, 128, 255]),
+            Breach::First => series[FIRST] = mostly(random, n as u8 + 1, &[128, 255]),
             _ => return self.break_between(random, breach),
         }
         Some(())
@@ -517,6 +517,15 @@ impl Pieces {
     }
 }
 
+/// The value just beyond a limit, mostly; sometimes one that is farther off.
+fn mostly<T: Copy>(random: &mut Random, nearest: T, farther: &[T]) -> T {
+    if random.percent(75) {
+        nearest
+    } else {
+        random.pick(farther)
+    }
+}
+
 /// A byte other than the one given.
 fn other_byte(random: &mut Random, byte: u8) -> u8 {
     byte.wrapping_add(random.between(1, 255) as u8)
@@ -524,7 +533,7 @@ fn other_byte(random: &mut Random, byte: u8) -> u8 {
 
 /// A version above 999.
 fn unlawful_version(random: &mut Random) -> u16 {
-    random.pick(&[HIGHEST_VERSION + 1, 1_024, 65_535])
+    mostly(random, HIGHEST_VERSION + 1, &[1_024, 65_535])
 }
 
 /// A value other than 0.

@@ -3,10 +3,11 @@
 //! A rule of the paper is often several conditions joined by "or". For the histogram each of
 //! them is told apart, so every list of clauses is an enum whose order is the order in which the
 //! paper names them. A set of broken clauses is a 64-bit number; its lowest bit is the first
-//! broken clause. A list of cases is the same without the sets: what the generator makes on purpose.
+//! broken clause. A list of cases is the same without the sets, and without texts where nobody reads
+//! them.
 
 macro_rules! cases {
-    ($(#[$note:meta])* $name:ident { $($variant:ident $text:literal,)* }) => {
+    ($(#[$note:meta])* $name:ident { $($variant:ident,)* }) => {
         $(#[$note])*
         #[derive(Clone, Copy, Debug, PartialEq, Eq)]
         pub enum $name { $($variant),* }
@@ -14,7 +15,12 @@ macro_rules! cases {
         impl $name {
             /// All of them, in their order.
             pub const ALL: &'static [$name] = &[$($name::$variant),*];
+        }
+    };
+    ($(#[$note:meta])* $name:ident { $($variant:ident $text:literal,)* }) => {
+        $crate::clause::cases! { $(#[$note])* $name { $($variant,)* } }
 
+        impl $name {
             /// A few words for the histogram.
             pub fn text(self) -> &'static str {
                 match self { $($name::$variant => $text),* }

@@ -48,6 +48,24 @@ pub enum Side {
     Sells,
 }
 
+/// Series that others filed, by in and out party.
+type Filed<'book> = HashMap<(Field, Field), &'book Block>;
+
+/// The sender block of a message that follows the kept one, or is the sender's first.
+fn head(random: &mut Random, day: &Block, sender: &Field, kept: Option<&Block>) -> Block {
+    let mut head = [0; BLOCK_BYTES];
+    head[KIND] = KIND_SENDER;
+    head[N] = day[N];
+    put_u16(&mut head, VERSION, kept.map_or(0, |kept| u16_at(kept, VERSION)).wrapping_add(1));
+    let id = kept.map_or_else(|| names::id(random), |kept| field(kept, ID));
+    put_field(&mut head, ID, &id);
+    put_field(&mut head, SENDER, sender);
+    put_field(&mut head, RECEIVER, &field(day, RECEIVER));
+    head[DAY_IN_SENDER..DAY_IN_SENDER + DAY_DIGITS]
+        .copy_from_slice(&day[DAY_IN_DAY_BLOCK..DAY_IN_DAY_BLOCK + DAY_DIGITS]);
+    head
+}
+
 impl Draft {
     /// A message the book should accept, free slots permitting. The book need not be sound: what
     /// cannot be read from it is made up.
@@ -57,69 +75,74 @@ impl Draft {
         let day = list.first().copied().unwrap_or(&nothing);
         let n = u16::from(day[N]).clamp(2, POSITIONS as u16);
         let (clock, lead) = (Minute(u16_at(day, CLOCK)), u16_at(day, LEAD));
-        let first_open = (1..=n).find(|&p| Position(p).is_open(clock, lead)).unwrap_or(n + 1);
         let slot = (1..list.len()).find(|&slot| list[slot][KIND] == KIND_SENDER && field(list[slot], SENDER) == sender);
-
-        let mut head = [0; BLOCK_BYTES];
-        head[KIND] = KIND_SENDER;
-        head[N] = day[N];
-        let version = slot.map_or(0, |slot| u16_at(list[slot], VERSION)).wrapping_add(1);
-        put_u16(&mut head, VERSION, version);
-        let id = slot.map_or_else(|| names::id(random), |slot| field(list[slot], ID));
-        put_field(&mut head, ID, &id);
-        put_field(&mut head, SENDER, &sender);
-        put_field(&mut head, RECEIVER, &field(day, RECEIVER));
-        head[DAY_IN_SENDER..DAY_IN_SENDER + DAY_DIGITS]
-            .copy_from_slice(&day[DAY_IN_DAY_BLOCK..DAY_IN_DAY_BLOCK + DAY_DIGITS]);
-
         let mut draft = Draft {
-            blocks: vec![head],
+            blocks: vec![head(random, day, &sender, slot.map(|slot| list[slot]))],
             sender,
             area: field(day, AREA),
             n,
-            first_open,
+            first_open: (1..=n).find(|&p| Position(p).is_open(clock, lead)).unwrap_or(n + 1),
             stored: Vec::new(),
             free_slots: list.iter().filter(|block| block[KIND] == 0).count(),
         };
-        // What others filed about trades with this sender.
-        let mut theirs: HashMap<(Field, Field), &Block> = HashMap::new();
-        for &block in list.iter().skip(1).filter(|block| block[KIND] == KIND_SERIES) {
-            let parties = pair(block);
-            if slot == Some(usize::from(u16_at(block, SENDER_SLOT))) {
-                draft.stored.push(field(block, ID));
-                // A book that is not sound may hold more of a sender than a record can carry.
-                if draft.blocks.len() < MOST_MESSAGE_BYTES / BLOCK_BYTES {
-                    draft.blocks.push(*block);
-                }
-            } else if parties.0 == sender || parties.1 == sender {
-                theirs.insert(parties, block);
-            }
-        }
-        for series in draft.blocks.iter_mut().skip(1) {
-            let before = *series;
-            put_u16(series, SENDER_SLOT, 0);
-            series[MARK..VALUES].fill(0);
-            if random.percent(growth.changed) {
-                change(random, series, theirs.get(&pair(series)).copied(), first_open, n);
-                if series[VALUES..CHECK] != before[VALUES..CHECK] {
-                    put_u16(series, VERSION, version);
-                }
-            }
-        }
-
-        // Trades that others filed and this sender has not answered come first to mind.
-        let mut unanswered: Vec<(Field, Field)> =
-            theirs.keys().copied().filter(|parties| !draft.has_pair(parties)).collect();
-        unanswered.sort_unstable();
+        let theirs = draft.take_stored(&list, slot);
+        draft.change_stored(random, growth.changed, &theirs);
         let fewest = usize::from(draft.blocks.len() == 1);
         let new = match growth.new {
             New::UpTo(most) => random.between(fewest, most.max(fewest)),
             New::Exactly(number) => number,
             New::Filling(more) => (draft.free_slots + more).saturating_sub(usize::from(slot.is_none())).max(fewest),
         };
+        draft.add_new(random, new, growth.side, partners, &theirs);
+        if random.percent(20) {
+            random.shuffle(&mut draft.blocks[1..]);
+        }
+        draft
+    }
+
+    /// Takes over the sender's stored series. Hands back what others filed about trades with it.
+    fn take_stored<'book>(&mut self, list: &[&'book Block], slot: Option<usize>) -> Filed<'book> {
+        let mut theirs = Filed::new();
+        for &block in list.iter().skip(1).filter(|block| block[KIND] == KIND_SERIES) {
+            let parties = pair(block);
+            if slot == Some(usize::from(u16_at(block, SENDER_SLOT))) {
+                self.stored.push(field(block, ID));
+                // A book that is not sound may hold more of a sender than a record can carry.
+                if self.blocks.len() < MOST_MESSAGE_BYTES / BLOCK_BYTES {
+                    self.blocks.push(*block);
+                }
+            } else if parties.0 == self.sender || parties.1 == self.sender {
+                theirs.insert(parties, block);
+            }
+        }
+        theirs
+    }
+
+    /// Makes stored series fit for a message, and changes so many of a hundred.
+    fn change_stored(&mut self, random: &mut Random, changed: usize, theirs: &Filed) {
+        let (version, first_open, n) = (self.version(), self.first_open, self.n);
+        for series in self.blocks.iter_mut().skip(1) {
+            let before = *series;
+            put_u16(series, SENDER_SLOT, 0);
+            series[MARK..VALUES].fill(0);
+            if random.percent(changed) {
+                change(random, series, theirs.get(&pair(series)).copied(), first_open, n);
+                if series[VALUES..CHECK] != before[VALUES..CHECK] {
+                    put_u16(series, VERSION, version);
+                }
+            }
+        }
+    }
+
+    /// Adds so many new series. Trades that others filed and this sender has not answered come first
+    /// to mind.
+    fn add_new(&mut self, random: &mut Random, new: usize, side: Option<Side>, partners: &[Field], theirs: &Filed) {
+        let mut unanswered: Vec<(Field, Field)> =
+            theirs.keys().copied().filter(|parties| !self.has_pair(parties)).collect();
+        unanswered.sort_unstable();
         for _ in 0..new {
-            if let Some(side) = growth.side {
-                draft.add_at_limit(random, side, partners);
+            if let Some(side) = side {
+                self.add_at_limit(random, side, partners);
                 continue;
             }
             let wanted = if !unanswered.is_empty() && random.percent(80) {
@@ -127,12 +150,8 @@ impl Draft {
             } else {
                 None
             };
-            draft.add_series(random, wanted, partners, &theirs);
+            self.add_series(random, wanted, partners, theirs);
         }
-        if random.percent(20) {
-            random.shuffle(&mut draft.blocks[1..]);
-        }
-        draft
     }
 
     fn has_pair(&self, parties: &(Field, Field)) -> bool {
@@ -158,13 +177,7 @@ impl Draft {
     }
 
     /// Adds a new series, if there is room in the message.
-    fn add_series(
-        &mut self,
-        random: &mut Random,
-        wanted: Option<(Field, Field)>,
-        partners: &[Field],
-        theirs: &HashMap<(Field, Field), &Block>,
-    ) {
+    fn add_series(&mut self, random: &mut Random, wanted: Option<(Field, Field)>, partners: &[Field], theirs: &Filed) {
         if self.blocks.len() > usize::from(MOST_SERIES) {
             return;
         }
@@ -210,7 +223,7 @@ impl Draft {
         let free = |other: &&Field| **other != self.sender && !self.has_pair(&parties(**other));
         let other = partners.iter().find(free).copied().unwrap_or_else(|| names::valid_eic(random));
         let (wanted, before) = (parties(other), self.blocks.len());
-        self.add_series(random, Some(wanted), partners, &HashMap::new());
+        self.add_series(random, Some(wanted), partners, &Filed::new());
         if let Some(series) = self.blocks.get_mut(before) {
             for position in self.first_open..=self.n {
                 put_quantity(series, Position(position), HIGHEST_QUANTITY);
@@ -244,7 +257,7 @@ impl Draft {
     fn new_series(&mut self, random: &mut Random, partners: &[Field]) -> usize {
         let added = (1..self.blocks.len()).find(|&place| !self.is_stored(&self.blocks[place]));
         added.unwrap_or_else(|| {
-            self.add_series(random, None, partners, &HashMap::new());
+            self.add_series(random, None, partners, &Filed::new());
             self.blocks.len() - 1
         })
     }
@@ -310,41 +323,41 @@ fn change(random: &mut Random, series: &mut Block, other: Option<&Block>, first_
 cases! {
     /// Ways to spoil what a message says, in the order of the rules 3 to 17.
     Fault {
-        Receiver "receiver",
-        SenderEic "sender's EIC",
-        Day "day",
-        DayText "day that is no day",
-        EveryN "n",
-        MessageId "message id malformed",
-        OtherMessageId "other message id",
-        VersionSame "version as kept",
-        VersionSkips "version skips one",
-        VersionOdd "odd version",
-        SeriesId "series id malformed",
-        IdTwice "series id twice",
-        IdSwapped "parties swapped",
-        IdOtherPair "other pair",
-        PairTwice "pair twice",
-        PairRenamed "pair renamed",
-        InParty "in party",
-        OutParty "out party",
-        EqualParties "equal parties",
-        Strangers "strangers",
-        InArea "in area",
-        OutArea "out area",
-        BusinessType "business type",
-        ContractType "contract type",
-        Agreement "capacity agreement",
-        TopBit "top bit",
-        TooHigh "too high",
-        AboveN "above n",
-        ClosedChanged "closed position changed",
-        ClosedNew "closed position of a new series",
-        SeriesVersionRaised "all series versions raised",
-        SeriesVersionKept "series version lowered",
-        SeriesVersionOdd "odd series version",
-        Absent "series absent",
-        NoRoom "no room",
+        Receiver,
+        SenderEic,
+        Day,
+        DayText,
+        EveryN,
+        MessageId,
+        OtherMessageId,
+        VersionSame,
+        VersionSkips,
+        VersionOdd,
+        SeriesId,
+        IdTwice,
+        IdSwapped,
+        IdOtherPair,
+        PairTwice,
+        PairRenamed,
+        InParty,
+        OutParty,
+        EqualParties,
+        Strangers,
+        InArea,
+        OutArea,
+        BusinessType,
+        ContractType,
+        Agreement,
+        TopBit,
+        TooHigh,
+        AboveN,
+        ClosedChanged,
+        ClosedNew,
+        SeriesVersionRaised,
+        SeriesVersionKept,
+        SeriesVersionOdd,
+        Absent,
+        NoRoom,
     }
 }
 
@@ -458,7 +471,7 @@ impl Draft {
 
     fn repeat_id(&mut self, random: &mut Random, partners: &[Field]) {
         if self.blocks.len() == 2 {
-            self.add_series(random, None, partners, &HashMap::new());
+            self.add_series(random, None, partners, &Filed::new());
         }
         let later = random.between(2.min(self.blocks.len() - 1), self.blocks.len() - 1);
         let earlier = random.between(1, (later - 1).max(1));
@@ -467,7 +480,7 @@ impl Draft {
     }
 
     fn repeat_pair(&mut self, random: &mut Random, partners: &[Field]) {
-        self.add_series(random, None, partners, &HashMap::new());
+        self.add_series(random, None, partners, &Filed::new());
         let last = self.blocks.len() - 1;
         if last > 1 && !self.is_stored(&self.blocks[last]) {
             let (in_party, out_party) = pair(&self.blocks[random.between(1, last - 1)]);
@@ -569,12 +582,12 @@ impl Draft {
         if fault == Fault::NoRoom {
             let more = if self.free_slots < 60 { self.free_slots + 2 } else { 0 };
             for _ in 0..more {
-                self.add_series(random, None, partners, &HashMap::new());
+                self.add_series(random, None, partners, &Filed::new());
             }
         } else if let Some(place) = self.stored_series(random) {
             self.blocks.remove(place);
             if self.blocks.len() == 1 || random.percent(30) {
-                self.add_series(random, None, partners, &HashMap::new());
+                self.add_series(random, None, partners, &Filed::new());
             }
         }
     }
@@ -616,7 +629,7 @@ impl Draft {
     /// all of 7 to 15 before the next begins.
     pub fn break_out_of_order(&mut self, random: &mut Random, partners: &[Field]) {
         while self.blocks.len() < 3 {
-            self.add_series(random, None, partners, &HashMap::new());
+            self.add_series(random, None, partners, &Filed::new());
         }
         let first = random.between(1, self.blocks.len() - 2);
         let second = random.between(first + 1, self.blocks.len() - 1);
@@ -656,19 +669,19 @@ impl Draft {
 cases! {
     /// Ways to spoil the form of a message, one for each clause of rule 2.
     FormFault {
-        PartOfBlock "part of a block",
-        TooShort "fewer than 2 blocks",
-        TooLong "more than 201 blocks",
-        Check "check",
-        FirstKind "first kind",
-        LaterKind "later kind",
-        Count "count",
-        SenderBytes6To7 "sender's bytes 6-7",
-        SenderBytes64To107 "sender's bytes 64-107",
-        SenderNets "nets",
-        SeriesSenderSlot "sender's slot",
-        SeriesMark "mark",
-        SeriesN "n of a series",
+        PartOfBlock,
+        TooShort,
+        TooLong,
+        Check,
+        FirstKind,
+        LaterKind,
+        Count,
+        SenderBytes6To7,
+        SenderBytes64To107,
+        SenderNets,
+        SeriesSenderSlot,
+        SeriesMark,
+        SeriesN,
     }
 }
 

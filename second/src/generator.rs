@@ -169,7 +169,7 @@ impl Generator {
     }
 
     fn action(&mut self, book: &[u8]) {
-        match self.random.weighted(&[52, 7, 8, 5, 9, 4, 6, 3, 3, 16, 3, 1, 6]) {
+        match self.random.weighted(&[52, 7, 8, 5, 9, 4, 6, 3, 3, 16, 3, 1, 7]) {
             0 => self.submission(book),
             1 => self.clock(book),
             2 => self.mark_or_block(book, true),
@@ -349,7 +349,7 @@ impl Generator {
         }
         let sound = is_sound(&target);
         self.set_book(book, &target);
-        self.large_messages = self.large_messages.min(2);
+        self.large_messages = self.large_messages.min(4);
         self.left = match self.episode {
             _ if !sound => self.random.between(1, 5),
             Episode::Full | Episode::Long => self.random.between(5, 15),
@@ -365,7 +365,7 @@ impl Generator {
         let (senders, fewest_series, most_series, free_slots) = match self.episode {
             Episode::Middling => (random.between(2, 6), 1, 20, random.below(20)),
             Episode::Long => (random.between(1, 3), 21, 150, random.below(100)),
-            Episode::Full if random.percent(50) => (5, 199, 199, 0),
+            Episode::Full if random.percent(70) => (5, 199, 199, 0),
             Episode::Full => (4, 190, 200, random.below(201)),
             _ => (random.between(1, 4), 1, random.between(1, 5), random.below(6)),
         };
@@ -789,31 +789,10 @@ impl Generator {
         let random = &mut self.random;
         let record = match random.weighted(&[6, 4, 7, 4, 2, 2, 1]) {
             0 => {
-                let mut code = random.pick(&self.pool).to_vec();
-                match random.below(9) {
-                    0 | 1 => {}
-                    8 => code = names::hyphen_eic(random).to_vec(),
-                    2 => code[random.below(16)] = random.byte(),
-                    3 => code[15] = random.byte(),
-                    4 => code.truncate(random.below(16)),
-                    5 => code.push(b'0'),
-                    6 => {
-                        code = vec![b'0'; 16];
-                        code[15] = random.byte();
-                    }
-                    _ => code = names::invalid_eic(random).to_vec(),
-                }
-                Record::Eic(code)
+                let valid = random.pick(&self.pool);
+                Record::Eic(eic_text(random, &valid))
             }
-            1 => {
-                let mut id = if random.percent(50) { names::id(random) } else { names::malformed_id(random) }.to_vec();
-                match random.below(8) {
-                    0 => id.truncate(random.below(16)),
-                    1 => id.push(random.pick(b"\0A")),
-                    _ => {}
-                }
-                Record::Id(id)
-            }
+            1 => Record::Id(id_text(random)),
             2 => Record::Read(quantity_text(random)),
             3 => {
                 let quantity = match random.below(6) {
@@ -824,26 +803,56 @@ impl Generator {
                 let buffer = (0..random.below(12)).map(|_| random.byte()).collect();
                 Record::Print { quantity, buffer }
             }
-            4 | 5 => {
-                let mut block = Box::new([0; BLOCK_BYTES]);
-                if random.percent(70) {
-                    block.iter_mut().for_each(|byte| *byte = random.byte());
-                } else {
-                    block[random.between(500, 511)] = random.byte();
-                }
-                if random.percent(40) {
-                    seal(&mut block);
-                }
-                if random.percent(50) {
-                    Record::Check(block)
-                } else {
-                    Record::Seal(block)
-                }
-            }
+            4 => Record::Check(some_block(random)),
+            5 => Record::Seal(some_block(random)),
             _ => Record::Code(if random.percent(80) { random.below(36) as u8 } else { random.byte() }),
         };
         self.queue.push_back(record);
     }
+}
+
+/// A valid EIC, or a text that is close to one.
+fn eic_text(random: &mut Random, valid: &Field) -> Vec<u8> {
+    let mut code = valid.to_vec();
+    match random.below(9) {
+        0 | 1 => {}
+        2 => code[random.below(16)] = random.byte(),
+        3 => code[15] = random.byte(),
+        4 => code.truncate(random.below(16)),
+        5 => code.push(b'0'),
+        6 => {
+            code = vec![b'0'; 16];
+            code[15] = random.byte();
+        }
+        7 => code = names::hyphen_eic(random).to_vec(),
+        _ => code = names::invalid_eic(random).to_vec(),
+    }
+    code
+}
+
+/// An id, or a text that is close to one.
+fn id_text(random: &mut Random) -> Vec<u8> {
+    let mut id = if random.percent(50) { names::id(random) } else { names::malformed_id(random) }.to_vec();
+    match random.below(8) {
+        0 => id.truncate(random.below(16)),
+        1 => id.push(random.pick(b"\0A")),
+        _ => {}
+    }
+    id
+}
+
+/// A block of random bytes, or all zero but for one of the last; sometimes its check is right.
+fn some_block(random: &mut Random) -> Box<Block> {
+    let mut block = Box::new([0; BLOCK_BYTES]);
+    if random.percent(70) {
+        block.iter_mut().for_each(|byte| *byte = random.byte());
+    } else {
+        block[random.between(500, 511)] = random.byte();
+    }
+    if random.percent(40) {
+        seal(&mut block);
+    }
+    block
 }
 
 /// Writes a stream with this many calls. The calls left out are made here all the same: what they
