@@ -75,6 +75,7 @@ pub struct Generator {
     breaches: Deck<Breach>,
     /// The lower of two rules, next to each other, that one message is to break.
     neighbours: Deck<u8>,
+    forms: Deck<FormFault>,
     episode: Episode,
     whole_climb: bool,
     partners: Vec<Field>,
@@ -116,6 +117,7 @@ impl Generator {
             episodes: Deck::of(&round),
             breaches: Deck::of(Breach::ALL),
             neighbours: Deck::of(&(3..=16).collect::<Vec<u8>>()),
+            forms: Deck::of(FormFault::ALL),
             episode: Episode::Small,
             whole_climb: seed % WHOLE_CLIMB == 0,
             partners: Vec::new(),
@@ -300,7 +302,7 @@ impl Generator {
             _ => unreachable!("an opening was made"),
         };
         for _ in 0..random.pick(&[1, 1, 1, 2]) {
-            match random.below(10) {
+            match random.below(12) {
                 0 => *n = random.pick(&[0, 91, 93, 95, 97, 99, 101, 255, 24]),
                 1 => *lead = random.pick(&[LONGEST_LEAD + 1, 65_535, 2_880]),
                 2 => {
@@ -314,8 +316,8 @@ impl Generator {
                 4 => *area = names::invalid_eic(random).to_vec(),
                 5 => *receiver = names::invalid_eic(random).to_vec(),
                 6 => area.push(b'0'),
-                7 => *area = names::hyphen_eic(random).to_vec(),
-                8 => *receiver = names::hyphen_eic(random).to_vec(),
+                7 | 8 => *area = names::hyphen_eic(random).to_vec(),
+                9 | 10 => *receiver = names::hyphen_eic(random).to_vec(),
                 _ => {
                     receiver.pop();
                 }
@@ -352,7 +354,7 @@ impl Generator {
         self.large_messages = self.large_messages.min(4);
         self.left = match self.episode {
             _ if !sound => self.random.between(1, 5),
-            Episode::Full | Episode::Long => self.random.between(5, 15),
+            Episode::Full | Episode::Long => self.random.between(10, 18),
             _ => self.random.between(4, 40),
         };
         if !sound {
@@ -474,7 +476,7 @@ impl Generator {
         let mut sender = self.sender(book);
         let mut growth = self.growth(book);
         let random = &mut self.random;
-        let kind = random.weighted(&[50, 8, 28, 6, 4, 4, 10, 2, 1]);
+        let kind = random.weighted(&[47, 8, 27, 12, 4, 4, 10, 2, 1]);
         match kind {
             // A message that changes nothing.
             1 => growth = Growth { new: New::UpTo(0), changed: 0, side: None },
@@ -521,13 +523,16 @@ impl Generator {
         }
     }
 
+    /// A fault of form that is next in turn, and sometimes others beside it.
     fn spoil_form(&mut self, draft: Draft) -> Vec<u8> {
         let random = &mut self.random;
-        let how_many = random.pick(&[1, 1, 1, 2, 3]);
-        let mut faults: Vec<FormFault> = (0..how_many).map(|_| random.pick(FormFault::ALL)).collect();
-        if random.percent(50) {
-            // The long one is large; now and then is often enough.
-            faults.retain(|&fault| fault != FormFault::TooLong);
+        let mut faults = vec![self.forms.deal(random)];
+        if faults[0] == FormFault::TooLong && random.percent(50) {
+            // The long one is large; half as often is often enough.
+            faults[0] = self.forms.deal(random);
+        }
+        for _ in 0..random.pick(&[0, 0, 0, 1, 2]) {
+            faults.push(random.pick(FormFault::ALL));
         }
         draft.finished(random, &faults)
     }
