@@ -20,6 +20,7 @@ use crate::random::Random;
 use crate::sound::{is_sound, FEWEST_BLOCKS, MOST_BLOCKS};
 use crate::stream::{records_between, Record};
 use crate::submission::submit;
+use crate::texts;
 
 /// What an episode is about, and how large its books are.
 #[derive(Clone, Copy, PartialEq, Eq)]
@@ -36,7 +37,7 @@ enum Episode {
     Climb,
 }
 
-/// The episodes of one round: every stream of the comparison is long enough for one.
+/// The episodes of one round. A stream of the comparison holds about one.
 const EPISODES: [(Episode, usize); 7] = [
     (Episode::Small, 34),
     (Episode::Middling, 9),
@@ -795,69 +796,21 @@ impl Generator {
         let record = match random.weighted(&[6, 4, 7, 4, 2, 2, 1]) {
             0 => {
                 let valid = random.pick(&self.pool);
-                Record::Eic(eic_text(random, &valid))
+                Record::Eic(texts::eic(random, &valid))
             }
-            1 => Record::Id(id_text(random)),
-            2 => Record::Read(quantity_text(random)),
+            1 => Record::Id(texts::id(random)),
+            2 => Record::Read(texts::quantity(random)),
             3 => {
-                let quantity = match random.below(6) {
-                    0 => random.pick(&[0, 1, 999, 1_000, 9_999, 10_000, 99_999, 999_999, 1_000_000, HIGHEST_QUANTITY]),
-                    1 => random.pick(&[HIGHEST_QUANTITY + 1, u32::MAX, 1 << 31]),
-                    _ => names::quantity(random),
-                };
+                let quantity = texts::quantity_to_print(random);
                 let buffer = (0..random.below(12)).map(|_| random.byte()).collect();
                 Record::Print { quantity, buffer }
             }
-            4 => Record::Check(some_block(random)),
-            5 => Record::Seal(some_block(random)),
+            4 => Record::Check(texts::block(random)),
+            5 => Record::Seal(texts::block(random)),
             _ => Record::Code(if random.percent(80) { random.below(36) as u8 } else { random.byte() }),
         };
         self.queue.push_back(record);
     }
-}
-
-/// A valid EIC, or a text that is close to one.
-fn eic_text(random: &mut Random, valid: &Field) -> Vec<u8> {
-    let mut code = valid.to_vec();
-    match random.below(9) {
-        0 | 1 => {}
-        2 => code[random.below(16)] = random.byte(),
-        3 => code[15] = random.byte(),
-        4 => code.truncate(random.below(16)),
-        5 => code.push(b'0'),
-        6 => {
-            code = vec![b'0'; 16];
-            code[15] = random.byte();
-        }
-        7 => code = names::hyphen_eic(random).to_vec(),
-        _ => code = names::invalid_eic(random).to_vec(),
-    }
-    code
-}
-
-/// An id, or a text that is close to one.
-fn id_text(random: &mut Random) -> Vec<u8> {
-    let mut id = if random.percent(50) { names::id(random) } else { names::malformed_id(random) }.to_vec();
-    match random.below(8) {
-        0 => id.truncate(random.below(16)),
-        1 => id.push(random.pick(b"\0A")),
-        _ => {}
-    }
-    id
-}
-
-/// A block of random bytes, or all zero but for one of the last; sometimes its check is right.
-fn some_block(random: &mut Random) -> Box<Block> {
-    let mut block = Box::new([0; BLOCK_BYTES]);
-    if random.percent(70) {
-        block.iter_mut().for_each(|byte| *byte = random.byte());
-    } else {
-        block[random.between(500, 511)] = random.byte();
-    }
-    if random.percent(40) {
-        seal(&mut block);
-    }
-    block
 }
 
 /// Writes a stream with this many calls. The calls left out are made here all the same: what they
@@ -916,33 +869,6 @@ fn reseal(bytes: &mut [u8]) {
     for place in 0..bytes.len() / BLOCK_BYTES {
         seal(block_at_mut(bytes, place));
     }
-}
-
-/// A text that is a quantity or nearly one.
-fn quantity_text(random: &mut Random) -> Vec<u8> {
-    let digits =
-        |random: &mut Random, count: usize| -> Vec<u8> { (0..count).map(|_| b'0' + random.below(10) as u8).collect() };
-    let whole = if random.percent(85) { random.between(1, 4) } else { random.below(7) };
-    let mut text = digits(random, whole);
-    if random.percent(60) {
-        text.push(b'.');
-        let parts = if random.percent(80) { random.between(1, 3) } else { random.below(6) };
-        text.extend(digits(random, parts));
-    }
-    if random.percent(20) {
-        text.insert(0, b'-');
-    }
-    if random.percent(15) && !text.is_empty() {
-        let at = random.below(text.len());
-        match random.below(3) {
-            0 => text[at] = random.pick(b"-+. ,x\0/:\xff"),
-            1 => text.insert(at, random.pick(b"-+. ,0")),
-            _ => {
-                text.remove(at);
-            }
-        }
-    }
-    text
 }
 
 /// Whether the book as it stands takes the message.

@@ -33,3 +33,4 @@ pub mod random;
 pub mod selfcheck;
 pub mod sights;
 pub mod stream;
+pub mod texts;
