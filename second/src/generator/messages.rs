@@ -1,0 +1,203 @@
+//! Messages, lawful and spoilt, and their submission.
+
+use super::{reseal, senders_of, Episode, Generator};
+use crate::block::*;
+use crate::draft::{Draft, Fault, FormFault, Growth, New, Side};
+use crate::names;
+use crate::stream::Record;
+use crate::submission::submit;
+
+impl Generator {
+    pub(super) fn growth(&mut self, book: &[u8]) -> Growth {
+        let random = &mut self.random;
+        let free = blocks(book).filter(|block| block[KIND] == 0).count();
+        let most_new = match self.episode {
+            Episode::Middling => random.below(16),
+            Episode::Long => random.between(0, 120),
+            Episode::Full | Episode::Limit(_) => random.pick(&[200, 200, 120, 20, 0]),
+            _ => random.below(4),
+        };
+        // Mostly what is asked for has room; sometimes it fills the book to the last slot, and
+        // sometimes it is one block too many.
+        let large = matches!(self.episode, Episode::Full | Episode::Long);
+        let filling = if large { 5 } else { 1 };
+        let new = if free > 0 && free < 200 && random.below(40) < 2 * filling {
+            New::Filling(random.below(2))
+        } else if random.percent(4) {
+            New::UpTo(most_new)
+        } else {
+            New::UpTo(most_new.min(free.saturating_sub(1)))
+        };
+        let changed = match random.below(4) {
+            0 => 0,
+            1 => 100,
+            _ => 35,
+        };
+        let side = random.pick(&[Side::Buys, Side::Sells]);
+        Growth { new, changed, side: Some(side).filter(|_| large && random.percent(40)) }
+    }
+
+    pub(super) fn sender(&mut self, book: &[u8]) -> Field {
+        let random = &mut self.random;
+        let known = senders_of(book);
+        let full = blocks(book).filter(|block| block[KIND] == 0).count() < 2;
+        if !known.is_empty() && full && random.percent(85) {
+            // A full book has no room for a sender that is new to it.
+            return random.pick(&known);
+        }
+        let series: Vec<&Block> = blocks(book).skip(1).filter(|block| block[KIND] == KIND_SERIES).collect();
+        if !series.is_empty() && self.episode != Episode::Full && random.percent(45) {
+            // One of the parties of a filed trade, so that trades find their other side.
+            let (in_party, out_party) = pair(random.pick(&series));
+            return random.pick(&[in_party, out_party]);
+        }
+        if !known.is_empty() && random.percent(50) {
+            random.pick(&known)
+        } else {
+            random.pick(&self.partners)
+        }
+    }
+
+    /// A message, lawful or spoilt.
+    pub(super) fn message(&mut self, book: &[u8]) -> Vec<u8> {
+        let mut sender = self.sender(book);
+        let mut growth = self.growth(book);
+        let random = &mut self.random;
+        let kind = random.weighted(&[47, 8, 27, 12, 4, 4, 10, 2, 1]);
+        match kind {
+            // A message that changes nothing.
+            1 => growth = Growth { new: New::UpTo(0), changed: 0, side: None },
+            // A lawful message of a sender whose code ends in a hyphen.
+            8 => sender = names::hyphen_eic(random),
+            _ => {}
+        }
+        let mut draft = Draft::lawful(random, book, sender, &self.partners, &growth);
+        let place = draft.any_place(random);
+        match kind {
+            2 => self.spoil(&mut draft),
+            3 => self.break_neighbours(&mut draft, place),
+            4 => draft.mix_quantities(random, place),
+            5 => draft.break_out_of_order(random, &self.partners),
+            6 => return self.spoil_form(draft),
+            7 => return self.garble(draft),
+            _ => {}
+        }
+        draft.finished(&mut self.random, &[])
+    }
+
+    /// One fault, or several wherever they fall.
+    pub(super) fn spoil(&mut self, draft: &mut Draft) {
+        let random = &mut self.random;
+        for _ in 0..random.pick(&[1, 1, 1, 2, 3]) {
+            // Some faults find what they need only now and then, so they get more tries.
+            let fault = match random.below(5) {
+                0 => random.pick(&[Fault::ClosedChanged, Fault::ClosedNew, Fault::Absent, Fault::AboveN]),
+                _ => random.pick(Fault::ALL),
+            };
+            let place = draft.any_place(random);
+            draft.spoil(random, fault, place, &self.partners);
+        }
+    }
+
+    /// Two rules that follow each other, mostly at one series: the lower one must decide.
+    pub(super) fn break_neighbours(&mut self, draft: &mut Draft, place: usize) {
+        let random = &mut self.random;
+        let lower = self.neighbours.deal(random);
+        for rule in [lower + 1, lower] {
+            let fault = Fault::of_rule(random, rule);
+            let place = place.min(draft.blocks.len() - 1);
+            draft.spoil(random, fault, place, &self.partners);
+        }
+    }
+
+    /// A fault of form that is next in turn, and sometimes others beside it.
+    pub(super) fn spoil_form(&mut self, draft: Draft) -> Vec<u8> {
+        let random = &mut self.random;
+        let mut faults = vec![self.forms.deal(random)];
+        if faults[0] == FormFault::TooLong && random.percent(50) {
+            // The long one is large; half as often is often enough.
+            faults[0] = self.forms.deal(random);
+        }
+        for _ in 0..random.pick(&[0, 0, 0, 1, 2]) {
+            faults.push(random.pick(FormFault::ALL));
+        }
+        draft.finished(random, &faults)
+    }
+
+    /// A few bytes changed anywhere.
+    pub(super) fn garble(&mut self, draft: Draft) -> Vec<u8> {
+        let random = &mut self.random;
+        let mut message = draft.finished(random, &[]);
+        for _ in 0..random.between(1, 4) {
+            let at = random.below(message.len());
+            message[at] = random.byte();
+        }
+        if random.percent(70) {
+            reseal(&mut message);
+        }
+        message
+    }
+
+    /// A lawful message with nearly as many series as a message may have, or as there is room for.
+    pub(super) fn large_message(&mut self, book: &[u8]) {
+        let message = match self.episode {
+            Episode::Limit(side) => self.message_at_limit(book, side),
+            _ => {
+                let random = &mut self.random;
+                let sender = random.pick(&self.partners);
+                let free = blocks(book).filter(|block| block[KIND] == 0).count();
+                let new = if free <= 200 { New::Filling(0) } else { New::Exactly(random.between(190, 200)) };
+                let side = random.pick(&[Some(Side::Buys), Some(Side::Sells), None, None, None]);
+                let growth = Growth { new, changed: 0, side };
+                Draft::lawful(random, book, sender, &self.partners, &growth).finished(random, &[])
+            }
+        };
+        self.submit_and_show(book, message);
+    }
+
+    /// A message of 200 series, all on one side, its nets at their limit or just below it.
+    pub(super) fn message_at_limit(&mut self, book: &[u8], side: Side) -> Vec<u8> {
+        let random = &mut self.random;
+        let sender = self.partners[0];
+        let filed = senders_of(book).contains(&sender);
+        let new = New::Exactly(if filed { 0 } else { usize::from(MOST_SERIES) });
+        let growth = Growth { new, changed: 0, side: Some(side) };
+        let mut draft = Draft::lawful(random, book, sender, &self.partners, &growth);
+        if filed {
+            draft.move_about_limit(random);
+        }
+        draft.finished(random, &[])
+    }
+
+    pub(super) fn submit_and_show(&mut self, book: &[u8], message: Vec<u8>) {
+        let accepted = is_accepted(book, &message);
+        self.queue.push_back(Record::Submit(message));
+        self.show_after(accepted);
+    }
+
+    /// The sum after a submission, and every byte of the book after one that is accepted.
+    pub(super) fn show_after(&mut self, accepted: bool) {
+        self.queue.push_back(Record::Sum);
+        if accepted {
+            self.queue.push_back(Record::Book);
+        }
+    }
+
+    pub(super) fn submission(&mut self, book: &[u8]) {
+        let message = self.message(book);
+        match self.random.below(40) {
+            0 => self.queue.push_back(Record::Walk(message.clone())),
+            1 => {
+                // The same message twice: the second time its version is stale.
+                self.queue.push_back(Record::Submit(message.clone()));
+            }
+            _ => {}
+        }
+        self.submit_and_show(book, message);
+    }
+}
+
+/// Whether the book as it stands takes the message.
+fn is_accepted(book: &[u8], message: &[u8]) -> bool {
+    submit(&mut book.to_vec(), message).number() == 0
+}
