@@ -76,6 +76,8 @@ pub struct Generator {
     /// The lower of two rules, next to each other, that one message is to break.
     neighbours: Deck<u8>,
     forms: Deck<FormFault>,
+    /// Numbers whose code is asked for.
+    numbers: Deck<u8>,
     episode: Episode,
     whole_climb: bool,
     partners: Vec<Field>,
@@ -118,6 +120,7 @@ impl Generator {
             breaches: Deck::of(Breach::ALL),
             neighbours: Deck::of(&(3..=16).collect::<Vec<u8>>()),
             forms: Deck::of(FormFault::ALL),
+            numbers: Deck::of(&(0..=35).collect::<Vec<u8>>()),
             episode: Episode::Small,
             whole_climb: seed % WHOLE_CLIMB == 0,
             partners: Vec::new(),
@@ -171,7 +174,7 @@ impl Generator {
     }
 
     fn action(&mut self, book: &[u8]) {
-        match self.random.weighted(&[52, 7, 8, 5, 9, 4, 6, 3, 3, 16, 3, 1, 7]) {
+        match self.random.weighted(&[52, 7, 8, 5, 9, 4, 6, 3, 3, 18, 3, 1, 7, 1]) {
             0 => self.submission(book),
             1 => self.clock(book),
             2 => self.mark_or_block(book, true),
@@ -184,7 +187,8 @@ impl Generator {
             9 => self.leaf(),
             10 => self.damage(book),
             11 => self.reopen(),
-            _ => self.broken_book(book),
+            12 => self.broken_book(book),
+            _ => self.listing_at_edge(book),
         }
     }
 

@@ -6,6 +6,11 @@ use crate::random::Random;
 
 const ALPHABET: &[u8] = b"0123456789ABCDEFGHIJKLMNOPQRSTUVWXYZ-";
 
+/// Some character of the alphabet.
+pub fn character(random: &mut Random) -> u8 {
+    random.pick(ALPHABET)
+}
+
 /// A valid EIC.
 pub fn valid_eic(random: &mut Random) -> Field {
     loop {
@@ -35,12 +40,41 @@ pub fn hyphen_eic(random: &mut Random) -> Field {
     }
 }
 
+/// The characters that a careless reckoning of values takes for those of the alphabet: the bytes next
+/// to its ranges, small letters, and bytes with their top bit set.
+pub fn read_carelessly(code: &Field) -> Field {
+    code.map(|byte| match byte & 127 {
+        b':' => b'A',
+        b'@' => b'9',
+        b'[' => b'-',
+        other => other.to_ascii_uppercase(),
+    })
+}
+
+/// A code that a careless reckoning takes for an EIC: one of its characters is outside the alphabet.
+pub fn look_alike_eic(random: &mut Random) -> Field {
+    loop {
+        let mut code = valid_eic(random);
+        let at = random.below(16);
+        code[at] = match (random.below(3), code[at]) {
+            (0, b'A') => b':',
+            (0, b'9') => b'@',
+            (0, b'-') => b'[',
+            (1, letter @ b'A'..=b'Z') => letter.to_ascii_lowercase(),
+            (2, character) => character | 128,
+            _ => continue,
+        };
+        return code;
+    }
+}
+
 /// A field that is close to an EIC but is none.
 pub fn invalid_eic(random: &mut Random) -> Field {
     loop {
         let mut code = valid_eic(random);
-        match random.below(8) {
+        match random.below(9) {
             6 | 7 => return hyphen_eic(random),
+            8 => return look_alike_eic(random),
             0 => code[15] = b'-',
             1 => code = [b'0'; 16],
             2 => code[random.below(16)] = random.byte(),

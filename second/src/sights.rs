@@ -7,6 +7,8 @@ use crate::counts::Position;
 use crate::crafted::sealed;
 use crate::desk::Reply;
 use crate::identifier::{fails_by_hyphen_alone, is_valid_eic};
+use crate::listing::MOST_BYTES;
+use crate::names::read_carelessly;
 use crate::sound::MOST_BLOCKS;
 use crate::stream::Record;
 use crate::submission::{submit, Broken, Verdict};
@@ -41,6 +43,7 @@ cases! {
         HyphenInParty "rule 8 for the in party's hyphen",
         HyphenOutParty "rule 8 for the out party's hyphen",
         HyphenEic "eic refused for its hyphen",
+        LookAlikeEic "eic refused for a look-alike of a character",
         MarkState1 "mark in state 1",
         MarkState2 "mark in state 2",
         MarkState3 "mark in state 3",
@@ -49,6 +52,9 @@ cases! {
         PlainYes "plain run says yes",
         PlainNo "plain run says no",
         ListingPrinted "listing printed",
+        ListingLongest "listing of a book of 64 blocks",
+        ListingByteMore "listing too long by a byte",
+        ListingBlockMore "listing too long by a block",
         ListingTooLong "listing too long",
         ListingNotSound "listing not sound",
         SoundYes "sound yes",
@@ -76,9 +82,8 @@ pub fn sights(record: &Record, reply: &Reply, book: &[u8]) -> Vec<Sight> {
             Some(broken) => refusal(message, verdict, broken, book),
         },
         (Record::Open { area, receiver, .. }, Reply::Open(21)) => refused_opening(area, receiver),
-        (Record::Eic(text), Reply::Eic(false)) if fails_by_hyphen_alone(text) => {
-            vec![Sight::EicInvalid, Sight::HyphenEic]
-        }
+        (Record::Eic(text), Reply::Eic(false)) => refused_eic(text),
+        (Record::Listing, Reply::Listing(text)) => listing_given(text, book.len()),
         (Record::Final { out_party, in_party, .. }, Reply::Final { number: 0, value }) => {
             final_given(out_party, in_party, *value, book)
         }
@@ -97,11 +102,6 @@ fn plain_sight(reply: &Reply) -> Option<Sight> {
             _ => None,
         },
         Reply::Plain { number: 0, yes } => either(*yes, Sight::PlainYes, Sight::PlainNo),
-        Reply::Listing(text) => Some(match text.as_slice() {
-            b"too long\n" => Sight::ListingTooLong,
-            b"not sound\n" => Sight::ListingNotSound,
-            _ => Sight::ListingPrinted,
-        }),
         Reply::Sound(yes) => either(*yes, Sight::SoundYes, Sight::SoundNo),
         Reply::Reader(series) => either(series.is_empty(), Sight::ReaderEmpty, Sight::ReaderSeries),
         Reply::Walk { count, .. } => either(*count == 0, Sight::WalkNothing, Sight::WalkWhole),
@@ -207,6 +207,28 @@ fn later_series_breaks_earlier_rule(message: &[u8], verdict: &Verdict, book: &[u
     put_u16(&mut list[0], COUNT, count);
     let later = submit(&mut book.to_vec(), &sealed(list));
     later.series > 0 && later.number() < verdict.number()
+}
+
+fn refused_eic(text: &[u8]) -> Vec<Sight> {
+    let look_alike = <Field>::try_from(text).map_or(false, |code| is_valid_eic(&read_carelessly(&code)));
+    held(&[
+        (true, Sight::EicInvalid),
+        (fails_by_hyphen_alone(text), Sight::HyphenEic),
+        (look_alike, Sight::LookAlikeEic),
+    ])
+}
+
+fn listing_given(text: &[u8], length: usize) -> Vec<Sight> {
+    let (too_long, not_sound) = (text == b"too long\n", text == b"not sound\n");
+    let printed = !too_long && !not_sound;
+    held(&[
+        (too_long, Sight::ListingTooLong),
+        (not_sound, Sight::ListingNotSound),
+        (printed, Sight::ListingPrinted),
+        (printed && length == MOST_BYTES, Sight::ListingLongest),
+        (length == MOST_BYTES + 1, Sight::ListingByteMore),
+        (length == MOST_BYTES + BLOCK_BYTES, Sight::ListingBlockMore),
+    ])
 }
 
 fn refused_opening(area: &[u8], receiver: &[u8]) -> Vec<Sight> {

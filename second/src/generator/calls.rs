@@ -5,6 +5,7 @@ use crate::block::*;
 use crate::breach::break_book;
 use crate::counts::{Minute, Position, DAY_START, LATEST_MINUTE};
 use crate::crafted;
+use crate::listing;
 use crate::names;
 use crate::sound::is_sound;
 use crate::stream::Record;
@@ -173,6 +174,20 @@ impl Generator {
         }
     }
 
+    /// The listing of the book, made just as long as a listing takes it or just longer, and put back.
+    pub(super) fn listing_at_edge(&mut self, book: &[u8]) {
+        let used = blocks(book).filter(|block| block[KIND] != 0).count();
+        if is_sound(book) && used * BLOCK_BYTES < listing::MOST_BYTES {
+            let longest = listing::MOST_BYTES;
+            let length = self.random.pick(&[longest - 1, longest, longest + 1, longest + BLOCK_BYTES]);
+            let mut other = book.to_vec();
+            other.resize(length, 0);
+            self.set_book(book, &other);
+            self.queue.push_back(Record::Listing);
+            self.set_book(&other, book);
+        }
+    }
+
     /// A call that begins by asking whether the book is sound. It is made for the book given.
     pub(super) fn book_call(&mut self, book: &[u8]) {
         match self.random.below(8) {
@@ -194,7 +209,7 @@ impl Generator {
     /// Calls that need no book.
     pub(super) fn leaf(&mut self) {
         let random = &mut self.random;
-        let record = match random.weighted(&[6, 4, 7, 4, 2, 2, 1]) {
+        let record = match random.weighted(&[7, 4, 7, 4, 2, 2, 8]) {
             0 => {
                 let valid = random.pick(&self.pool);
                 Record::Eic(texts::eic(random, &valid))
@@ -208,7 +223,8 @@ impl Generator {
             }
             4 => Record::Check(texts::block(random)),
             5 => Record::Seal(texts::block(random)),
-            _ => Record::Code(if random.percent(80) { random.below(36) as u8 } else { random.byte() }),
+            _ if random.percent(10) => Record::Code(random.byte()),
+            _ => Record::Code(self.numbers.deal(random)),
         };
         self.queue.push_back(record);
     }
