@@ -1,13 +1,17 @@
 /* The desk's calls for C. Link with target/staticlib/libexport.a (rt staticlib export), for x86-64; examples/desk.c is a first lesson.
 
    A buffer is a pointer and a length in bytes. Every call answers for all contents and all lengths of what it is lent, keeps nothing of it past its
-   return, and reads and writes nothing outside it. A pointer may be any but null where its length is 0. A buffer that a call writes may not overlap
-   another of the same call. crates/export/src has each call's promise as it is proved, docs/PROMISES.md the same in words.
+   return, and reads and writes nothing outside it. A pointer may be any but null where its length is 0. crates/export/src has each call's promise as it
+   is proved, docs/PROMISES.md the same in words.
+
+   Open, clock and submit alter the book that they are lent, seal its block, print and listing their text; no other buffer is altered, and no call alters
+   one that is const here. No other buffer of such a call may be the one that it alters, or overlap it: not the day, area or receiver of an opening, nor
+   the message of a submission, nor the book that is listed. Buffers that a call only reads may be one, or overlap.
 
    Where an answer has a number, 0 says that the call did what was asked; any other is a refusal, which leaves every byte of the buffers as it was and
-   every other field of the answer 0, unless its comment says otherwise. A position counts from 1, a slot and a series from 1, a minute from 10,080 minutes
-   before the day's start; where an answer has none of them, 0 stands for it. A sender, a party and an id are fields of sixteen bytes, an id filled
-   up with zero bytes; nothing is known under a field of another length. */
+   every other field of the answer 0, unless its comment says otherwise. Seal refuses by false, listing by 0, accepted_block and series by an empty part. A
+   position counts from 1, a slot and a series from 1, a minute from 10,080 minutes before the day's start; where an answer has none of them, 0 stands for
+   it. A sender, a party and an id are fields of sixteen bytes, an id filled up with zero bytes; nothing is known under a field of another length. */
 #ifndef TETHERBAY_H
 #define TETHERBAY_H
 
@@ -23,8 +27,8 @@ uint32_t tetherbay_check(const uint8_t *block, size_t length);
 /* Whether each whole block of 512 bytes holds its check in bytes 508 to 511. Bytes behind the last whole block are not looked at. */
 bool tetherbay_checks_right(const uint8_t *blocks, size_t length);
 
-/* Puts the check into bytes 508 to 511, as far as the buffer has them; no other byte changes. */
-void tetherbay_seal(uint8_t *block, size_t length);
+/* Puts the check of a block into its bytes 508 to 511; no other byte changes. Whether it did: a buffer that has not 512 bytes is left as it was. */
+bool tetherbay_seal(uint8_t *block, size_t length);
 
 /* Whether these are sixteen bytes: 1 to 16 of A-Z, 0-9 and hyphen, then zero bytes. */
 bool tetherbay_id_well_formed(const uint8_t *id, size_t length);
@@ -53,13 +57,27 @@ tetherbay_printed tetherbay_quantity_print(uint32_t kilowatts, uint8_t *buffer, 
 /* The reason code of an answer's number, from the one fixed table: 53 for A53, and 1 (A01) for 0. 0 where the number has none. */
 uint8_t tetherbay_reason_code(uint32_t number);
 
+/* The kinds of reply to a message. */
+enum { TETHERBAY_ACKNOWLEDGEMENT = 0, TETHERBAY_UNINTERPRETABLE_MESSAGE = 1, TETHERBAY_DESK_NOTICE = 2 };
+
+/* An acknowledgement has a status, 1 (A01) or 2 (A02), and a reason code; the other two have neither, and both fields are 0. */
+typedef struct {
+    uint8_t kind;
+    uint8_t status;
+    uint8_t code;
+} tetherbay_reply_answer;
+
+/* How the sender of a message is to be answered, by the number of its submission: acknowledged where the number has a code; told by a desk notice on 1 and 17;
+   told that the message can't be read where any other number has none. */
+tetherbay_reply_answer tetherbay_reply(uint32_t number);
+
 /* ---- a day book: blocks of 512 bytes, from 2 to 1,001 of them, the day block and then slots 1, 2 and on */
 
-/* Whether the buffer is a sound book. Every other call on a book but open asks this first, and refuses with 1 where it is not. */
+/* Whether the buffer is a sound book; the book is only read. Every other call on a book but open asks this first, and refuses with 1 where it is not. */
 bool tetherbay_sound(const uint8_t *book, size_t length);
 
-/* Opens a book for a day of n quarter-hours, whose positions close `lead` minutes before they begin: writes the day block and frees every slot, whatever
-   the buffer held. 0; 20 where the length is not that of 2 to 1,001 blocks; else 21 where n is not 92, 96 or 100, the lead above 1,440, the day not
+/* Opens a book for a day of n quarter-hours, whose positions close `lead` minutes before they begin. Alters the book: writes the day block and frees every
+   slot, whatever the buffer held. 0; 20 where the length is not that of 2 to 1,001 blocks; else 21 where n is not 92, 96 or 100, the lead above 1,440, the day not
    eight digits, or the area or the receiver not a valid EIC. */
 uint32_t tetherbay_open(uint8_t *book, size_t length, uint8_t n, uint16_t lead, const uint8_t *day, size_t day_length, const uint8_t *area, size_t area_length,
                         const uint8_t *receiver, size_t receiver_length);
@@ -76,7 +94,7 @@ typedef struct {
     tetherbay_day state;
 } tetherbay_clock_answer;
 
-/* Moves the clock to a minute. 1 where the book is not sound; else 22 where the minute is below the kept clock or above 11,580. */
+/* Moves the clock to a minute. Alters the book: clock and check of the day block. 1 where the book is not sound; else 22 where the minute is below the kept clock or above 11,580. */
 tetherbay_clock_answer tetherbay_clock(uint8_t *book, size_t length, uint16_t minute);
 
 /* 0, or the number of the first broken rule, 1 to 17, with its reason code (1 for A01 on 0; 0 where a number has none); 7 to 15 give the number of the
@@ -88,21 +106,23 @@ typedef struct {
     size_t position;
 } tetherbay_verdict;
 
-/* Judges a message and, on 0, enters it: sender block, series, marks of both sides, nets and checks. */
+/* Judges a message and, on 0, enters it. Alters the book: sender block, series, marks of both sides, nets and checks. */
 tetherbay_verdict tetherbay_submit(uint8_t *book, size_t length, const uint8_t *message, size_t message_length);
 
-/* The verdict that a submission would get now. Nothing is written. */
+/* The verdict that a submission would get now. The book is only read. */
 tetherbay_verdict tetherbay_judge(const uint8_t *book, size_t length, const uint8_t *message, size_t message_length);
 
-/* 0 and the kept mark: state 1 (no counterpart), 2 (all positions agree) or 3 (they differ, first at this position), and the counterpart's slot. */
+/* 0 and the kept mark: state 1 (no counterpart), 2 (all positions agree) or 3 (they differ, first at this position), the state's code (28 for A28 on 1, 9 for
+   A09 on 3, 0 on 2) and the counterpart's slot. */
 typedef struct {
     uint32_t number;
     uint8_t state;
+    uint8_t code;
     size_t first;
     size_t partner;
 } tetherbay_mark_answer;
 
-/* The mark of a sender's series. 1 where the book is not sound; 23 where it keeps no such series. */
+/* The mark of a sender's series; the book is only read. 1 where the book is not sound; 23 where it keeps no such series. */
 tetherbay_mark_answer tetherbay_mark(const uint8_t *book, size_t length, const uint8_t *sender, size_t sender_length, const uint8_t *id, size_t id_length);
 
 /* A part of a buffer that the caller lent: where it begins and how many bytes it has. Offset 0 and length 0 where there is none. */
@@ -111,7 +131,7 @@ typedef struct {
     size_t length;
 } tetherbay_part;
 
-/* The block of a sender's series, 512 bytes of the book; none where the book is not sound or keeps no such series. */
+/* The block of a sender's series, 512 bytes of the book, which is only read; none where the book is not sound or keeps no such series. */
 tetherbay_part tetherbay_accepted_block(const uint8_t *book, size_t length, const uint8_t *sender, size_t sender_length, const uint8_t *id, size_t id_length);
 
 /* 0, 1, 24, 25 or 26, and on 0 the kilowatts. */
@@ -120,8 +140,8 @@ typedef struct {
     uint32_t kilowatts;
 } tetherbay_final_answer;
 
-/* The final value of a trade at a position: the seller's quantity, 0 where only the buyer keeps the trade. 1 where the book is not sound; else 24 where
-   the position is 0 or above n; else 25 where it is not closed yet; else 26 where neither party keeps a series of the two. */
+/* The final value of a trade at a position: the seller's quantity, 0 where only the buyer keeps the trade. The book is only read. 1 where it is not sound; else
+   24 where the position is 0 or above n; else 25 where it is not closed yet; else 26 where neither party keeps a series of the two. */
 tetherbay_final_answer tetherbay_final(const uint8_t *book, size_t length, const uint8_t *seller, size_t seller_length, const uint8_t *buyer, size_t buyer_length,
                                        size_t position);
 
@@ -131,10 +151,10 @@ typedef struct {
     bool holds;
 } tetherbay_plain_run_answer;
 
-/* Works all marks and nets out afresh and compares. */
+/* Works all marks and nets out afresh and compares; the book is only read. */
 tetherbay_plain_run_answer tetherbay_plain_run(const uint8_t *book, size_t length);
 
-/* Prints the listing of a book of at most 64 blocks: a header, then one line per series by ascending slot, with the kept marks; "too long" where the book
+/* Prints the listing of a book of at most 64 blocks, which is only read: a header, then one line per series by ascending slot, with the kept marks; "too long" where the book
    has more than 32,768 bytes, else "not sound" where it is not. Every line ends in a newline, no zero byte follows, and bytes after the text stay.
    The text's length; 0 where the buffer is too short for the whole of it, and then nothing is written. 6,000 bytes are always enough. */
 size_t tetherbay_listing(const uint8_t *book, size_t length, uint8_t *buffer, size_t buffer_length);

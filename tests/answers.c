@@ -14,14 +14,44 @@ static uint8_t book[8 * BLOCK], message[3 * BLOCK];
 
 static const uint8_t *bytes(const char *text) { return (const uint8_t *)text; }
 
+/* A buffer that is one byte short of a block, or one byte longer, or empty, stays as it was. */
+static void seal_refused(void) {
+    static const size_t lengths[] = {0, 508, 511, 513, 1024};
+    uint8_t buffer[2 * BLOCK], before[2 * BLOCK];
+    memset(before, 7, sizeof before);
+    for (size_t i = 0; i < sizeof lengths / sizeof *lengths; i++) {
+        memcpy(buffer, before, sizeof buffer);
+        is("seal of another length", tetherbay_seal(buffer, lengths[i]), false);
+        is("seal of another length, a byte written", (uint64_t)memcmp(buffer, before, sizeof buffer), 0);
+    }
+}
+
+static void replied(uint32_t to, uint8_t kind, uint8_t status, uint8_t code) {
+    tetherbay_reply_answer r = tetherbay_reply(to);
+    is("reply, kind", r.kind, kind);
+    is("reply, status", r.status, status);
+    is("reply, code", r.code, code);
+}
+
+static void replies(void) {
+    replied(0, TETHERBAY_ACKNOWLEDGEMENT, 1, 1);
+    replied(1, TETHERBAY_DESK_NOTICE, 0, 0);
+    replied(2, TETHERBAY_UNINTERPRETABLE_MESSAGE, 0, 0);
+    replied(3, TETHERBAY_ACKNOWLEDGEMENT, 2, 53);
+    replied(16, TETHERBAY_ACKNOWLEDGEMENT, 2, 52);
+    replied(17, TETHERBAY_DESK_NOTICE, 0, 0);
+    replied(UINT32_MAX, TETHERBAY_UNINTERPRETABLE_MESSAGE, 0, 0);
+}
+
 static void leaves(void) {
     uint8_t block[BLOCK] = {0}, id[16] = "TS0001", text[10] = "..........";
     block[506] = 1;
     is("check", tetherbay_check(block, BLOCK), 31);
     is("checks right, a wrong one", tetherbay_checks_right(block, BLOCK), false);
-    tetherbay_seal(block, BLOCK);
-    is("seal", number(block + 508, 4), 31);
+    is("seal", tetherbay_seal(block, BLOCK), true);
+    is("sealed", number(block + 508, 4), 31);
     is("checks right", tetherbay_checks_right(block, BLOCK), true);
+    seal_refused();
     memset(block, 255, 508);
     is("check, all its bits", tetherbay_check(block, BLOCK), 1715091520);
     is("id", tetherbay_id_well_formed(id, 16), true);
@@ -41,6 +71,7 @@ static void leaves(void) {
     is("code of 0", tetherbay_reason_code(0), 1);
     is("code of 4", tetherbay_reason_code(4), 78);
     is("code of the largest number", tetherbay_reason_code(UINT32_MAX), 0);
+    replies();
 }
 
 static uint32_t opened(uint8_t n, uint16_t lead, size_t length) {
@@ -99,9 +130,13 @@ static void readings(void) {
     tetherbay_mark_answer m = tetherbay_mark(book, sizeof book, two, 16, id, 16);
     is("mark, number", m.number, 0);
     is("mark, state", m.state, 3);
+    is("mark, code", m.code, 9);
     is("mark, first", m.first, 100);
     is("mark, partner", m.partner, 2);
     is("mark, 23", tetherbay_mark(book, sizeof book, two, 16, id, 15).number, 23);
+    m = tetherbay_mark(book, sizeof book, two, 16, bytes("SERIES-0002\0\0\0\0"), 16);
+    is("mark alone, state", m.state, 1);
+    is("mark alone, code", m.code, 28);
     tetherbay_part p = tetherbay_accepted_block(book, sizeof book, two, 16, id, 16);
     is("accepted block, offset", p.offset, 5 * BLOCK);
     is("accepted block, length", p.length, BLOCK);

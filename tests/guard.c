@@ -216,7 +216,7 @@ static void call_checks_right(void) {
 
 static void call_seal(void) {
     uint8_t *b = lend_book(&written_book);
-    tetherbay_seal(b, lent_length);
+    tetherbay_seal(b, lent_length < BLOCK || one_in(4) ? lent_length : BLOCK);
 }
 
 static void call_id_well_formed(void) {
@@ -245,6 +245,8 @@ static void call_quantity_print(void) {
 }
 
 static void call_reason_code(void) { tetherbay_reason_code(one_in(4) ? (uint32_t)seed : below(40)); }
+
+static void call_reply(void) { tetherbay_reply(one_in(4) ? (uint32_t)seed : below(40)); }
 
 static void call_sound(void) {
     const uint8_t *b = lend_book(&read_book);
@@ -334,6 +336,7 @@ static const struct {
     {"tetherbay_quantity_read", call_quantity_read},
     {"tetherbay_quantity_print", call_quantity_print},
     {"tetherbay_reason_code", call_reason_code},
+    {"tetherbay_reply", call_reply},
     {"tetherbay_sound", call_sound},
     {"tetherbay_open", call_open},
     {"tetherbay_clock", call_clock},

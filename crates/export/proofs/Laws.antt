@@ -1,4 +1,5 @@
--- A part that C is handed has the bytes which the paper's definition gives: block k of a buffer is block k − 1 of those behind its first.
+-- A buffer of one block is sealed, another stays. A part that C is handed has the bytes which the paper's definition gives: block k of a buffer is block k − 1 of
+-- those behind its first.
 use mathlib.Core.Path.{_≡_, refl, sym, ap, _∙_}
 use mathlib.Core.Logic.{_⊎_, inl, inr}
 use mathlib.Core.Bool.{Bool, true, false}
@@ -8,7 +9,7 @@ use Prim.Native.Nat.{ℕ, zero, suc, _*_, _/_, _≤_, _<_}
 use native.Mathlib.Omega.{arith}
 use lib.ListN.{length, drop, getD, List·getD-eq-default}
 use lib.Seq.{getD-take}
-use Rattle.laws.specs.Tests.{_or_}
+use Rattle.laws.specs.Tests.{_or_, is}
 use Rattle.laws.specs.Tests.Laws.{is-equal, is-other, upto-true, upto-false, lt-or}
 use Rattle.laws.specs.Lists.{nth, place, until}
 use Rattle.laws.specs.Lists.Search.{nth-place, place-length}
@@ -17,14 +18,26 @@ use Rattle.laws.specs.Bytes.{part}
 use Rattle.laws.specs.Cut.{cut, block}
 use Rattle.laws.specs.Cut.Laws.{cut-length, cut-at, cut-drop}
 use Rattle.paper.specs.Layout.{Bytes, Block}
+use Rattle.paper.specs.Check.{sealed}
 use Rattle.paper.specs.Book.{slots, used, isFree, numbered}
 use Rattle.paper.specs.Sound.{sound}
 use Rattle.paper.specs.Message.{seriesOf, rule2, seriesNumbered}
 use Rattle.paper.specs.Readings.{isStoredAs, storedAs, acceptedBlock}
 use Rattle.export.specs.declared.parts.Part.{Part}
+use Rattle.export.specs.Seal.{isOneBlock, sealedBlock}
 use Rattle.export.specs.Parts.{bytesOf, nothing, partNumbered, acceptedPart, seriesPart}
 
--- ---- as the code finds it
+-- ---- the seal
+
+pub seal-refused : (b : Bytes) → (length b ≡ 512 → ⊥) → (false ≡ isOneBlock b) × (b ≡ sealedBlock b)
+unfolding isOneBlock sealedBlock
+seal-refused b h = let t : is (length b) 512 ≡ false = is-other _ _ h in (sym t, rw t)
+
+pub seal-done : (b : Bytes) {c : Bytes} → length b ≡ 512 → c ≡ sealed b → (true ≡ isOneBlock b) × (c ≡ sealedBlock b)
+unfolding isOneBlock sealedBlock
+seal-done b h e = let t : is (length b) 512 ≡ true = is-equal _ _ h in (sym t, rw t e)
+
+-- ---- a part, as the code finds it
 
 pub part-first : (b : Bytes) (k : ℕ) → k ≡ 0 → nothing ≡ partNumbered b k
 unfolding partNumbered _or_

@@ -3,17 +3,19 @@ ghost use mathlib.Core.Path.{_≡_};
 ghost use lib.ListN.{length};
 ghost use Rattle.laws.specs.Lists.{every};
 ghost use Rattle.laws.specs.Cut.{cut};
-ghost use Rattle.paper.specs.Check.{checkOf, checkRight, sealed};
+ghost use Rattle.paper.specs.Check.{checkOf, checkRight};
 ghost use Rattle.paper.specs.Ids.{idWellFormed};
 ghost use Rattle.paper.specs.Eic.{eicValid};
 ghost use Rattle.paper.specs.QuantityText.{quantityRead, quantityPrinted, printedInto};
-ghost use Rattle.paper.specs.Codes.{reasonCode};
+ghost use Rattle.paper.specs.Codes.{reasonCode, replyTo};
+ghost use Rattle.export.specs.Seal.{isOneBlock, sealedBlock};
 
 pub mod book;
 pub mod parts;
 
 use paper::QuantityPrinted;
 use paper::QuantityRead;
+use paper::Reply;
 
 #[no_mangle]
 pub extern "C" fn tetherbay_check(block: &[u8]) -> u32
@@ -29,11 +31,16 @@ pub extern "C" fn tetherbay_checks_right(blocks: &[u8]) -> bool
     block::check::checks_right(blocks)
 }
 
+// Whether it sealed: a buffer of another length than a block's is refused, and stays.
 #[no_mangle]
-pub extern "C" fn tetherbay_seal(block: &mut [u8])
-    ensures { λ _. ⌜ now (block .exit) ≡ sealed (now (block .entry)) ⌝ }
+pub extern "C" fn tetherbay_seal(block: &mut [u8]) -> bool
+    ensures { λ r. ⌜ (r ≡ isOneBlock (now (block .entry))) × (now (block .exit) ≡ sealedBlock (now (block .entry))) ⌝ }
 {
-    block::check::seal(block)
+    if block.len() != 512 {
+        return false;
+    }
+    block::check::seal(block);
+    true
 }
 
 #[no_mangle]
@@ -69,4 +76,12 @@ pub extern "C" fn tetherbay_reason_code(number: u32) -> u8
     ensures { λ r. ⌜ r ≡ reasonCode number ⌝ }
 {
     codes::reason_code(number)
+}
+
+// How the sender of a message is answered, for whoever writes to it.
+#[no_mangle]
+pub extern "C" fn tetherbay_reply(number: u32) -> Reply
+    ensures { λ r. ⌜ r ≡ replyTo number ⌝ }
+{
+    codes::reply(number)
 }
