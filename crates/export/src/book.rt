@@ -11,6 +11,7 @@ ghost use Rattle.paper.specs.Listing.{listing};
 ghost use Rattle.listing_text.specs.Text.{textLength, textInto};
 ghost use Rattle.paper.specs.Rules.{verdict};
 ghost use Rattle.paper.specs.Acceptance.{submitted};
+ghost use Rattle.export.specs.Demand3.{OpeningKeeps, ClockKeeps, SubmissionKeeps, MarkByMessages, FinalByMessages, PlainRunSaysYes};
 use paper::ClockAnswer;
 use paper::FinalAnswer;
 use paper::MarkAnswer;
@@ -36,6 +37,7 @@ pub extern "C" fn tetherbay_open(
     receiver: &[u8],
 ) -> u32
     ensures { λ r. ⌜ (r ≡ openNumber (now (book .entry)) (record { n = n; lead = lead; day = now (day .entry); area = now (area .entry); receiver = now (receiver .entry) })) × (now (book .exit) ≡ opened (now (book .entry)) (record { n = n; lead = lead; day = now (day .entry); area = now (area .entry); receiver = now (receiver .entry) })) ⌝ }
+    ensures { λ r. ⌜ OpeningKeeps (now (book .entry)) r (now (book .exit)) ⌝ }
 {
     opening::open(book, n, lead, day, area, receiver)
 }
@@ -43,6 +45,7 @@ pub extern "C" fn tetherbay_open(
 #[no_mangle]
 pub extern "C" fn tetherbay_clock(book: &mut [u8], minute: u16) -> ClockAnswer
     ensures { λ r. ⌜ (r ≡ clockAnswer (now (book .entry)) minute) × (now (book .exit) ≡ clockMoved (now (book .entry)) minute) ⌝ }
+    ensures { λ _. ⌜ ClockKeeps (now (book .entry)) (now (book .exit)) ⌝ }
 {
     clock::clock(book, Minute(minute))
 }
@@ -50,6 +53,7 @@ pub extern "C" fn tetherbay_clock(book: &mut [u8], minute: u16) -> ClockAnswer
 #[no_mangle]
 pub extern "C" fn tetherbay_submit(book: &mut [u8], message: &[u8]) -> Verdict
     ensures { λ r. ⌜ (r ≡ verdict (now (book .entry)) (now (message .entry))) × (now (book .exit) ≡ submitted (now (book .entry)) (now (message .entry))) ⌝ }
+    ensures { λ r. ⌜ SubmissionKeeps (now (book .entry)) (now (message .entry)) (r .number) (now (book .exit)) ⌝ }
 {
     submit::submit(book, message)
 }
@@ -65,6 +69,7 @@ pub extern "C" fn tetherbay_judge(book: &[u8], message: &[u8]) -> Verdict
 #[no_mangle]
 pub extern "C" fn tetherbay_mark(book: &[u8], sender: &[u8], id: &[u8]) -> MarkAnswer
     ensures { λ r. ⌜ r ≡ markAnswer (now (book .entry)) (now (sender .entry)) (now (id .entry)) ⌝ }
+    ensures { λ r. ⌜ MarkByMessages (now (book .entry)) (now (sender .entry)) (now (id .entry)) r ⌝ }
 {
     readings::mark(book, sender, id)
 }
@@ -77,6 +82,7 @@ pub extern "C" fn tetherbay_final(
     position: usize,
 ) -> FinalAnswer
     ensures { λ r. ⌜ r ≡ final (now (book .entry)) (now (seller .entry)) (now (buyer .entry)) position ⌝ }
+    ensures { λ r. ⌜ FinalByMessages (now (book .entry)) (now (seller .entry)) (now (buyer .entry)) position r ⌝ }
 {
     readings::final_value(book, seller, buyer, Position(position))
 }
@@ -84,6 +90,7 @@ pub extern "C" fn tetherbay_final(
 #[no_mangle]
 pub extern "C" fn tetherbay_plain_run(book: &[u8]) -> PlainRunAnswer
     ensures { λ r. ⌜ r ≡ plainRun (now (book .entry)) ⌝ }
+    ensures { λ r. ⌜ PlainRunSaysYes (now (book .entry)) r ⌝ }
 {
     plain_run::plain_run(book)
 }

@@ -2,6 +2,7 @@
 ghost use mathlib.Core.Path.{_≡_};
 ghost use Rattle.paper.specs.Message.{seriesNumbered};
 ghost use Rattle.paper.specs.Readings.{acceptedBlock};
+ghost use Rattle.export.specs.Demand3.{BlockByMessages};
 ghost use Rattle.export.specs.Parts.{bytesOf, nothing, partNumbered, acceptedPart, seriesPart};
 
 // Where a part of a lent buffer begins, and how long it is; both are 0 where there is none.
@@ -39,6 +40,7 @@ fn part_numbered(buffer: &[u8], number: usize) -> Part
 #[no_mangle]
 pub extern "C" fn tetherbay_accepted_block(book: &[u8], sender: &[u8], id: &[u8]) -> Part
     ensures { λ r. ⌜ (r ≡ acceptedPart (now (book .entry)) (now (sender .entry)) (now (id .entry))) × (bytesOf r (now (book .entry)) ≡ acceptedBlock (now (book .entry)) (now (sender .entry)) (now (id .entry))) ⌝ }
+    ensures { λ r. ⌜ BlockByMessages (now (book .entry)) (now (sender .entry)) (now (id .entry)) (bytesOf r (now (book .entry))) ⌝ }
 {
     if !sound::sound(book) {
         return nothing();

@@ -1,6 +1,6 @@
 -- The three returns are the three cases of the definition.
 use Rattle.laws.specs.Kit.{arith, _∙_}
-use Rattle.export.proofs.Laws.{part-first, part-past, part-inside}
+use Rattle.export.proofs.Laws.Parts.{part-first, part-past, part-inside}
 use Rattle.export.proofs.parts.part_numbered.Statement.{statement}
 use Rattle.export.proofs.parts.part_numbered.Tie as tie
 

@@ -1,6 +1,6 @@
 -- Where rule 2 is broken there is nothing to hand out; elsewhere the number tells the place.
 use Rattle.laws.specs.Kit.{sym, _∙_}
-use Rattle.export.proofs.Laws.{series-broken, series-right}
+use Rattle.export.proofs.Laws.Parts.{series-broken, series-right}
 use Rattle.export.proofs.parts.tetherbay_series.Statement.{statement}
 use Rattle.export.proofs.parts.tetherbay_series.Tie as tie
 

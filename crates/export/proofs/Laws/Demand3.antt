@@ -1,0 +1,68 @@
+-- Each call gives what its definition gives, and of the definitions demand 3 is proved call by call: an equation for the book after the call, or for the answer,
+-- carries it over.
+use Rattle.laws.specs.Base.{_≡_, refl, sym, _∙_, cond, List, [], _∷_, _++_, ℕ}
+use Rattle.laws.specs.Tests.{is}
+use Rattle.paper.specs.declared.MarkAnswer.{MarkAnswer}
+use Rattle.paper.specs.declared.FinalAnswer.{FinalAnswer}
+use Rattle.paper.specs.declared.PlainRunAnswer.{PlainRunAnswer}
+use Rattle.paper.specs.declared.Verdict.{Verdict}
+use Rattle.paper.specs.Layout.{Bytes}
+use Rattle.paper.specs.Rules.{verdict}
+use Rattle.paper.specs.Acceptance.{submitted}
+use Rattle.paper.specs.Opening.{Opening, openNumber, opened}
+use Rattle.paper.specs.Clock.{clockMoved}
+use Rattle.paper.specs.Finals.{final}
+use Rattle.paper.specs.PlainRun.{plainRun}
+use Rattle.paper.specs.Readings.{markAnswer, acceptedBlock}
+use Rattle.promises.specs.Laws.Invariant.{Invariant}
+use Rattle.promises.specs.Laws.PlainMarks.{says-yes}
+use Rattle.promises.specs.Promises.{refused-opening-changes-nothing}
+use Rattle.promises.specs.Kept.{opening-begins, clock-keeps, submission-keeps, sound-book, mark-as-ruled, partner-as-ruled, accepted-block-as-sent, no-accepted-block, final-as-sent, final-later}
+use Rattle.promises.specs.Words.{messagesAfter, Later}
+use Rattle.export.specs.Demand3.{Demand3, FinalsStay, OpeningKeeps, ClockKeeps, SubmissionKeeps, MarkByMessages, BlockByMessages, FinalByMessages, PlainRunSaysYes}
+
+demand3 : (book : Bytes) (messages : List Bytes) → Invariant book messages → Demand3 book messages
+demand3 book messages v = record { marks = mark-as-ruled book messages v; senders-nets = v .plain; invariant = v }
+
+-- what the definitions keep, of the book that the call gave and of the messages as its answer counts them
+kept : (before : Bytes) {after given : Bytes} {messages counted : List Bytes} → given ≡ after → messages ≡ counted → Invariant after messages × Later before after
+    → Demand3 given counted × FinalsStay before given
+unfolding FinalsStay
+kept before {after} {given} {messages} e f h = rw (e, ← f) (demand3 after messages (h .0), final-later before after (sound-book after messages (h .0)) (h .1))
+
+pub opening-kept : (b : Bytes) (o : Opening) {r : ℕ} {c : Bytes} → (r ≡ openNumber b o) × (c ≡ opened b o) → OpeningKeeps b r c
+unfolding OpeningKeeps
+opening-kept b o e = (
+  λ z. rw (e .1) (demand3 (opened b o) [] (opening-begins b o (sym (e .0) ∙ z))),
+  λ n. e .1 ∙ refused-opening-changes-nothing b o (λ z. n (e .0 ∙ z)),
+)
+
+pub clock-kept : (b : Bytes) (minute : ℕ) {c : Bytes} → c ≡ clockMoved b minute → ClockKeeps b c
+unfolding ClockKeeps
+clock-kept b minute e messages v = kept b e refl (clock-keeps b messages (v .invariant) minute)
+
+counted : (b m : Bytes) (messages : List Bytes) {r : Verdict} → r ≡ verdict b m → messagesAfter b m messages ≡ cond (is (r .number) 0) (messages ++ m ∷ []) messages
+unfolding messagesAfter
+counted b m messages e = rw e
+
+pub submission-kept : (b m : Bytes) {r : Verdict} {c : Bytes} → (r ≡ verdict b m) × (c ≡ submitted b m) → SubmissionKeeps b m (r .number) c
+unfolding SubmissionKeeps
+submission-kept b m e messages v = kept b (e .1) (counted b m messages (e .0)) (submission-keeps b messages (v .invariant) m)
+
+pub mark-by-messages : (b e i : Bytes) {r : MarkAnswer} → r ≡ markAnswer b e i → MarkByMessages b e i r
+unfolding MarkByMessages
+mark-by-messages b e i q messages v = rw q (v .marks e i, partner-as-ruled b messages (v .invariant) e i)
+
+-- beside whatever else is said of the part
+pub block-by-messages : (b e i : Bytes) {A : Type 0} {x : Bytes} → A × (x ≡ acceptedBlock b e i) → (A × (x ≡ acceptedBlock b e i)) × BlockByMessages b e i x
+unfolding BlockByMessages
+block-by-messages b e i q =
+    (q, λ messages v. rw (q .1) (accepted-block-as-sent b messages (v .invariant) e i, no-accepted-block b messages (v .invariant) e i))
+
+pub final-by-messages : (b seller buyer : Bytes) (p : ℕ) {r : FinalAnswer} → r ≡ final b seller buyer p → FinalByMessages b seller buyer p r
+unfolding FinalByMessages
+final-by-messages b seller buyer p q messages v = q ∙ final-as-sent b messages (v .invariant) seller buyer p
+
+pub plain-run-says-yes : (b : Bytes) {r : PlainRunAnswer} → r ≡ plainRun b → PlainRunSaysYes b r
+unfolding PlainRunSaysYes
+plain-run-says-yes b q messages v = q ∙ says-yes b messages (v .invariant)

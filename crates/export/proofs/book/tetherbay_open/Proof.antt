@@ -1,0 +1,13 @@
+-- The opening gives what its definition gives, and that keeps demand 3.
+use Rattle.laws.specs.Kit.{needs}
+use Rattle.export.proofs.Laws.Demand3.{opening-kept}
+use Rattle.export.proofs.book.tetherbay_open.Statement.{statement}
+use Rattle.export.proofs.book.tetherbay_open.Tie as tie
+
+returns : tie.Need-returns
+returns c =
+    let gives = c .before .before .open .ensures in
+    (gives, opening-kept _ _ gives)
+
+pub tetherbay-open-spec : {M : Type 1} → statement M
+tetherbay-open-spec = tie.close (tie.spec (λ c κs. search needs) (λ c. search needs) returns)

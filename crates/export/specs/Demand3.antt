@@ -1,0 +1,68 @@
+-- Demand 3, as each call keeps it or reads it. `book` is a book that was opened and that only these calls have altered; `messages` are those accepted since its
+-- last opening, oldest first. A contract that cites these words is read alone: what one call leaves is what the next one takes up.
+use mathlib.Core.Path.{_≡_}
+use mathlib.Core.Bool.{true, cond}
+use mathlib.Core.Option.{Option, none, some, Option·map, Option·getD}
+use mathlib.Core.List.{List, [], _∷_, _++_}
+use Prim.Native.Nat.{ℕ}
+use Rattle.laws.specs.Tests.{is}
+use Rattle.laws.specs.Lists.{find, nth}
+use Rattle.paper.specs.declared.MarkAnswer.{MarkAnswer}
+use Rattle.paper.specs.declared.FinalAnswer.{FinalAnswer}
+use Rattle.paper.specs.declared.PlainRunAnswer.{PlainRunAnswer}
+use Rattle.paper.specs.Layout.{Bytes, Block, nets, pair}
+use Rattle.paper.specs.Book.{dayBlock, used, isSenderBlockOf, slotOf, isSeriesOfPair}
+use Rattle.paper.specs.Finals.{final}
+use Rattle.paper.specs.Readings.{markAnswer}
+use Rattle.paper.specs.PlainRule.{otherParty, plainNets}
+use Rattle.promises.specs.Laws.Invariant.{Invariant}
+use Rattle.promises.specs.Words.{content, finalGiven, plainStoredAs, plainMarkAnswer, plainFinal}
+
+-- marks and nets are what the plain rule gives on the messages; the slot that a mark names is told the rule. `invariant` is what makes this hold after the next call
+pub record Demand3 (book : Bytes) (messages : List Bytes) : Type 0 where
+  pub marks : (e id : Bytes) → markAnswer book e id ≡ plainMarkAnswer messages e id ((markAnswer book e id) .partner .0)
+  pub senders-nets : (e : Bytes) → Option·map nets (find (isSenderBlockOf e) (used book)) ≡ plainNets messages e
+  pub invariant : Invariant book messages
+
+-- a final value once given is given unchanged
+unfoldable pub FinalsStay : (before : Bytes) (after : Bytes) → Type 0
+FinalsStay before after = (seller buyer : Bytes) (position kilowatts : ℕ) → final before seller buyer position ≡ finalGiven kilowatts
+    → final after seller buyer position ≡ finalGiven kilowatts
+
+-- ---- calls that write
+
+-- an opening that is accepted begins with no message, whatever the buffer held; a refused one leaves all as it was
+unfoldable pub OpeningKeeps : (before : Bytes) (number : ℕ) (after : Bytes) → Type 0
+OpeningKeeps before number after = (number ≡ 0 → Demand3 after []) × ((number ≡ 0 → ⊥) → after ≡ before)
+
+-- a clock move, accepted or not, is no message
+unfoldable pub ClockKeeps : (before : Bytes) (after : Bytes) → Type 0
+ClockKeeps before after = (messages : List Bytes) → Demand3 before messages → Demand3 after messages × FinalsStay before after
+
+-- a submitted message is one more of the accepted ones exactly where its number is 0
+unfoldable pub SubmissionKeeps : (before : Bytes) (message : Bytes) (number : ℕ) (after : Bytes) → Type 0
+SubmissionKeeps before message number after =
+    (messages : List Bytes) → Demand3 before messages → Demand3 after (cond (is number 0) (messages ++ message ∷ []) messages) × FinalsStay before after
+
+-- ---- calls that read: e is the sender
+
+-- the mark is the plain rule's, and the slot that it names is that of the other party's series y with the same pair
+unfoldable pub MarkByMessages : (book : Bytes) (e : Bytes) (id : Bytes) (answer : MarkAnswer) → Type 0
+MarkByMessages book e id answer =
+    (messages : List Bytes) → Demand3 book messages → (answer ≡ plainMarkAnswer messages e id (answer .partner .0))
+    × ((x : Block) → plainStoredAs messages e id ≡ some x
+    → nth (used book) (answer .partner .0) ≡ find (isSeriesOfPair (slotOf (used book) (otherParty e (pair x))) (pair x)) (used book))
+
+-- the block is the one that the sender's latest message has, sender's slot, mark and check apart; there is none where that has none
+unfoldable pub BlockByMessages : (book : Bytes) (e : Bytes) (id : Bytes) (block : Bytes) → Type 0
+BlockByMessages book e id block =
+    (messages : List Bytes) → Demand3 book messages → (content block ≡ content (Option·getD (plainStoredAs messages e id) []))
+    × (plainStoredAs messages e id ≡ none → block ≡ [])
+
+-- the final is worked out from what each party last sent
+unfoldable pub FinalByMessages : (book : Bytes) (seller : Bytes) (buyer : Bytes) (position : ℕ) (answer : FinalAnswer) → Type 0
+FinalByMessages book seller buyer position answer = (messages : List Bytes) → Demand3 book messages → answer ≡ plainFinal (dayBlock book) messages seller buyer position
+
+-- the plain run says yes
+unfoldable pub PlainRunSaysYes : (book : Bytes) (answer : PlainRunAnswer) → Type 0
+PlainRunSaysYes book answer = (messages : List Bytes) → Demand3 book messages → answer ≡ record { number = 0; holds = true }
