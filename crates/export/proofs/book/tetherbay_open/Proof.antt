@@ -5,9 +5,7 @@ use Rattle.export.proofs.book.tetherbay_open.Statement.{statement}
 use Rattle.export.proofs.book.tetherbay_open.Tie as tie
 
 returns : tie.Need-returns
-returns c =
-    let gives = c .before .before .open .ensures in
-    (gives, opening-kept _ _ gives)
+returns c = (c .before .before .open .ensures, opening-kept _ _ (c .before .before .open .ensures))
 
 pub tetherbay-open-spec : {M : Type 1} → statement M
 tetherbay-open-spec = tie.close (tie.spec (λ c κs. search needs) (λ c. search needs) returns)
