@@ -19,6 +19,10 @@
 #include <stddef.h>
 #include <stdint.h>
 
+/* Bytes of stack that a call needs at most. No call takes other memory than that, nor more of it for a larger buffer. Measured, not proved: submit needs
+   most, docs/PERFORMANCE.md has the others. */
+#define TETHERBAY_STACK 40960
+
 /* ---- blocks, fields and text */
 
 /* The check over bytes 0 to 507 of a block; of a shorter buffer, over the bytes that there are. */
