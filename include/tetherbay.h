@@ -75,7 +75,10 @@ typedef struct {
    told that the message can't be read where any other number has none. */
 tetherbay_reply_answer tetherbay_reply(uint32_t number);
 
-/* ---- a day book: blocks of 512 bytes, from 2 to 1,001 of them, the day block and then slots 1, 2 and on */
+/* ---- a day book: blocks of 512 bytes, from 2 to 1,001 of them, the day block and then slots 1, 2 and on
+
+   Of a book that was opened and that only open, clock and submit have altered since: its marks and nets are what the plain matching rule gives on the
+   messages that submit has answered with 0 since then, and a final value once given is given unchanged until the book is opened again. */
 
 /* Whether the buffer is a sound book; the book is only read. Every other call on a book but open asks this first, and refuses with 1 where it is not. */
 bool tetherbay_sound(const uint8_t *book, size_t length);
