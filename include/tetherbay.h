@@ -101,7 +101,8 @@ typedef struct {
     tetherbay_day state;
 } tetherbay_clock_answer;
 
-/* Moves the clock to a minute. Alters the book: clock and check of the day block. 1 where the book is not sound; else 22 where the minute is below the kept clock or above 11,580. */
+/* Moves the clock to a minute. Alters the book: clock and check of the day block. 1 where the book is not sound; else 22 where the minute is below the kept
+   clock or above 11,580. */
 tetherbay_clock_answer tetherbay_clock(uint8_t *book, size_t length, uint16_t minute);
 
 /* 0, or the number of the first broken rule, 1 to 17, with its reason code (1 for A01 on 0; 0 where a number has none); 7 to 15 give the number of the
