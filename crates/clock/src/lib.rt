@@ -12,7 +12,7 @@ use sound::sound;
 use sound_blocks::ranges::clock_allowed;
 
 // n, lead and clock as the day block keeps them.
-pub fn day_state(d: &[u8]) -> DayState
+fn day_state(d: &[u8]) -> DayState
     ensures { λ r. ⌜ r ≡ dayState (now (d .entry)) ⌝ }
 {
     DayState {

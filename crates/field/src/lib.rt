@@ -106,7 +106,7 @@ pub fn hyphen(x: u8) -> bool
 }
 
 // An id is of "A–Z, 0–9 and hyphen".
-pub fn id_character(x: u8) -> bool
+fn id_character(x: u8) -> bool
     ensures { λ r. ⌜ r ≡ idCharacter x ⌝ }
 {
     letter(x) | digit(x) | hyphen(x)

@@ -24,14 +24,14 @@ use slots::is_series;
 use slots::numbered;
 
 // What two series of one trade have in common, and two of one sender never have.
-pub fn pair_is(x: &[u8], p: &[u8]) -> bool
+fn pair_is(x: &[u8], p: &[u8]) -> bool
     ensures { λ r. ⌜ r ≡ pairIs (now (p .entry)) (now (x .entry)) ⌝ }
 {
     same(pair(x), p)
 }
 
 // The kind and the sender's slot first: a search asks this of every used slot, and most have another pair.
-pub fn is_counterpart(y: &[u8], slot: Slot, p: &[u8]) -> bool
+fn is_counterpart(y: &[u8], slot: Slot, p: &[u8]) -> bool
     ensures { λ r. ⌜ r ≡ isCounterpart (slot .0) (now (p .entry)) (now (y .entry)) ⌝ }
 {
     if !is_series(y) {
@@ -44,7 +44,7 @@ pub fn is_counterpart(y: &[u8], slot: Slot, p: &[u8]) -> bool
 }
 
 // The slot of the other party's series; 0 where it has none. It is sought among the series of the pair's bucket alone.
-pub fn counterpart_slot(us: &[u8], x: &[u8], heads: &[u16; 1024], nexts: &[u16; 1000]) -> Slot
+fn counterpart_slot(us: &[u8], x: &[u8], heads: &[u16; 1024], nexts: &[u16; 1000]) -> Slot
     requires { ⌜ (length (now us) / 512 ≤ 1000) × Links seriesIn (cut 512 (now us)) 0 (now heads) (now nexts) ⌝ }
     ensures { λ r. ⌜ r .0 ≡ counterpartSlot (cut 512 (now (us .entry))) (now (x .entry)) ⌝ }
 {
@@ -61,7 +61,7 @@ pub fn counterpart_slot(us: &[u8], x: &[u8], heads: &[u16; 1024], nexts: &[u16; 
 }
 
 // The lowest of n positions at which two series differ; 0 where they agree. Two that agree, as most do, are compared as bytes.
-pub fn first_difference(n: usize, a: &[u8], b: &[u8]) -> Position
+fn first_difference(n: usize, a: &[u8], b: &[u8]) -> Position
     requires { ⌜ n ≤ 100 ⌝ }
     ensures { λ r. ⌜ (r .0 ≡ firstDifference n (quantities (now (a .entry))) (quantities (now (b .entry)))) × (r .0 ≤ n) ⌝ }
 {

@@ -29,14 +29,14 @@ pub fn series_of(message: &[u8]) -> &[u8]
 }
 
 // "Kind 1; the count right": the count is of the series that follow.
-pub fn head_right(h: &[u8], many: usize) -> bool
+fn head_right(h: &[u8], many: usize) -> bool
     ensures { λ r. ⌜ r ≡ headRight (now (h .entry)) many ⌝ }
 {
     is_sender(h) & (series_count(h) as usize == many) & sender_zeros_in_message(h)
 }
 
 // Kind 2, and the first block's n.
-pub fn series_right(h: &[u8], y: &[u8]) -> bool
+fn series_right(h: &[u8], y: &[u8]) -> bool
     ensures { λ r. ⌜ r ≡ seriesRight (now (h .entry)) (now (y .entry)) ⌝ }
 {
     is_series(y) & series_zeros_in_message(y) & (n_of(y) == n_of(h))
@@ -57,7 +57,7 @@ fn all_series_right(h: &[u8], series: &[u8]) -> bool
 }
 
 // The length is looked at before the bytes: a slice of any size costs no more than the largest message.
-pub fn message_right(message: &[u8]) -> bool
+fn message_right(message: &[u8]) -> bool
     ensures { λ r. ⌜ r ≡ messageRight (now (message .entry)) ⌝ }
 {
     if !whole_blocks(2, 201, message) {

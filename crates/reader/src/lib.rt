@@ -1,5 +1,6 @@
-// "Series of a message are walked by a reader laid over the message buffer." A function that takes, makes or holds a reader is thin and proved by
-// hand; what it does stands in functions on the message and the number, which any caller may use in its stead.
+// "Series of a message are walked by a reader laid over the message buffer." `new` and `next` are that form. A function that takes, makes or holds a
+// reader is proved by hand, so these are thin; what they do stands in `readable` and `series_at`, on the message and the number, and by these every
+// caller walks: replay, and `series_numbered` for one series alone.
 ghost use mathlib.Core.Path.{_≡_};
 ghost use Rattle.paper.specs.Message.{seriesNumbered};
 ghost use Rattle.reader.specs.Walk.{readable, seriesAt, following};
@@ -33,7 +34,7 @@ pub fn series_at(message: &[u8], number: usize) -> &[u8]
 }
 
 // No message has more than 200 series: past them a reader stays where it is.
-pub fn following(number: usize) -> usize
+fn following(number: usize) -> usize
     ensures { λ r. ⌜ r ≡ following number ⌝ }
 {
     if number < 201 {
@@ -59,7 +60,7 @@ pub fn new<'a>(message: &'a [u8]) -> Reader<'a>
 }
 
 // The series that is next, and the reader stays before it.
-pub fn current<'a>(r: Reader<'a>) -> &'a [u8]
+fn current<'a>(r: Reader<'a>) -> &'a [u8]
     ensures { λ s. ⌜ now s ≡ seriesAt (now (r .entry .message)) (r .entry .next) ⌝ }
 {
     series_at(r.message, r.next)

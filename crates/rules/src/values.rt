@@ -43,7 +43,7 @@ pub fn rule_14(d: &[u8], x: &[u8], y: &[u8], k: usize) -> bool
 }
 
 // A series keeps its version until one of its quantities changes.
-pub fn series_version(x: &[u8], h: &[u8], y: &[u8]) -> u16
+fn series_version(x: &[u8], h: &[u8], y: &[u8]) -> u16
     ensures { λ r. ⌜ r ≡ seriesVersion (now (x .entry)) (now (h .entry)) (now (y .entry)) ⌝ }
 {
     if !is_series(x) | !same(quantities(x), quantities(y)) {

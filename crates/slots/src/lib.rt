@@ -60,7 +60,7 @@ pub fn is_sender_block_of(b: &[u8], e: &[u8]) -> bool
 }
 
 // A used slot is told by its first byte.
-pub fn is_free(b: &[u8]) -> bool
+fn is_free(b: &[u8]) -> bool
     ensures { λ r. ⌜ r ≡ isFree (now (b .entry)) ⌝ }
 {
     if kind(b) != 0 {
