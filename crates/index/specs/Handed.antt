@@ -11,7 +11,7 @@ use Rattle.index.specs.Linked.{Found}
 -- over the used slots us, a message's first block h and its series: how many slots are used, the sender's slot, of each series of the message its place among the sender's stored
 -- ones, and of each used block the number of the message's series with its pair; 0 where there is none
 pub record Handed (us : List Block) (h : Block) (series : List Block) (usedCount known : ℕ) (places numbers : List ℕ) : Type 0 where
-  pub used-many : usedCount ≡ length us
+  pub used-count : usedCount ≡ length us
   pub senders-slot : known ≡ slotOf us (sender h)
   pub stored : Found known Pair us series places
   pub sent : Found 0 Pair series us numbers

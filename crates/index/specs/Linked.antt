@@ -46,7 +46,7 @@ module _ (p : ℕ → Block → Bool) (l : List Block) where
     pub begin : Heads i heads
     pub go-on : Nexts i nexts
     pub buckets : length heads ≡ 1024
-    pub many : length nexts ≡ 1000
+    pub nexts-length : length nexts ≡ 1000
 
 -- ---- what is sought
 

@@ -133,7 +133,7 @@ module _ (l r : List Block) (e : map view l ≡ map view r) where
         begin = λ g c. a .begin g c ∙ same-place g 0;
         go-on = λ j c d g q. a .go-on j c (omega arith) g (same-series g j ∙ q) ∙ same-place g (j + 1);
         buckets = a .buckets;
-        many = a .many;
+        nexts-length = a .nexts-length;
       }
 
 -- block i of a, the list l of which the first i are marked anew

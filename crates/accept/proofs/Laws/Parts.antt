@@ -31,13 +31,13 @@ module _ (n : ℕ) (b : Bytes) (h : Block) (d : Bytes) (p : Placing n (length (c
   pub used-fits : (512 * u ≤ length b) × (u ≤ 1000)
   used-fits =
       let m : length (cut 512 b) ≤ 1000 = p .few in
-      (omega (arith, f .used-many, cut-length 512 b, until-length isFree (cut 512 b)), omega (arith, f .used-many, until-length isFree (cut 512 b)))
+      (omega (arith, f .used-count, cut-length 512 b, until-length isFree (cut 512 b)), omega (arith, f .used-count, until-length isFree (cut 512 b)))
 
   pub series-short : length d / 512 ≤ 1000
   series-short = let m : length (cut 512 d) ≤ 200 = p .series-few in omega (arith, cut-length 512 d)
 
   first-blocks : take u (cut 512 b) ≡ until isFree (cut 512 b)
-  first-blocks = until-take isFree (cut 512 b) u (f .used-many)
+  first-blocks = until-take isFree (cut 512 b) u (f .used-count)
 
   module _ (slot : ℕ) (es : slot ≡ cond (is known 0) (u + 1) known) where
     pub blocks-room : 512 * (u + length (senderIfNew known h (cut 512 d) ++ addedTo slot places (cut 512 d) (length d / 512))) ≤ length b

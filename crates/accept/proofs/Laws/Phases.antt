@@ -46,19 +46,19 @@ module _ (n : ℕ) (l us : List Block) (h : Block) (series : List Block) (p : Pl
   new = senderIfNew known h series ++ addedTo slot places series (length series)
 
   slot-is : slot ≡ slotFor us (sender h)
-  slot-is = s ∙ slot-found us (sender h) known u (d .senders-slot) (d .used-many)
+  slot-is = s ∙ slot-found us (sender h) known u (d .senders-slot) (d .used-count)
 
   new-is : new ≡ fresh us h series
   unfolding fresh ownSeries
   new-is =
-      ap₂ _++_ (sender-found us (sender h) known u (d .senders-slot) (d .used-many) h series)
+      ap₂ _++_ (sender-found us (sender h) known u (d .senders-slot) (d .used-count) h series)
       (all-new slot places series known us (d .stored)
       ∙ ap₂ (λ a k. map (withSendersSlot a) (keep (isNew (keep (isSeriesOf k) us)) series)) slot-is (d .senders-slot))
 
   placed-length : length (placed us h series) ≡ u + length (fresh us h series)
   unfolding placed
   placed-length =
-      omega (arith, d .used-many, length-append (map (renewed (slotFor us (sender h)) h series) us) (fresh us h series), length-map us (renewed (slotFor us (sender h)) h series))
+      omega (arith, d .used-count, length-append (map (renewed (slotFor us (sender h)) h series) us) (fresh us h series), length-map us (renewed (slotFor us (sender h)) h series))
 
   pub room : u + length new ≤ length l
   room = let r : length (placed us h series) ≤ length l = p .room in omega (arith, placed-length, ap length new-is)
@@ -70,11 +70,11 @@ module _ (n : ℕ) (l us : List Block) (h : Block) (series : List Block) (p : Pl
     one : l1 ≡ us ++ (fresh us h series ++ drop next l)
     unfolding over
     one =
-        let e : length (us ++ fresh us h series) ≡ next = omega (arith, d .used-many, next-is, placed-length, length-append us (fresh us h series)) in
+        let e : length (us ++ fresh us h series) ≡ next = omega (arith, d .used-count, next-is, placed-length, length-append us (fresh us h series)) in
         i .list ∙ ap₂ (λ a b. over (a ++ b) l) f new-is ∙ ap (λ m. (us ++ fresh us h series) ++ drop m l) e ∙ append-assoc us (fresh us h series) (drop next l)
 
     pub first-used : take u l1 ≡ us
-    first-used = ap (take u) one ∙ take-at us (fresh us h series ++ drop next l) u (sym (d .used-many))
+    first-used = ap (take u) one ∙ take-at us (fresh us h series ++ drop next l) u (sym (d .used-count))
 
     pub used-numbers : Numbers (take u l1) series numbers
     used-numbers = rw first-used (numbers-found us series numbers (p .series-slot) (d .sent))
@@ -83,7 +83,7 @@ module _ (n : ℕ) (l us : List Block) (h : Block) (series : List Block) (p : Pl
       two : l2 ≡ placed us h series ++ drop next l
       unfolding placed
       two =
-          let k : drop u l1 ≡ fresh us h series ++ drop next l = ap (drop u) one ∙ drop-at us (fresh us h series ++ drop next l) u (sym (d .used-many)) in
+          let k : drop u l1 ≡ fresh us h series ++ drop next l = ap (drop u) one ∙ drop-at us (fresh us h series ++ drop next l) u (sym (d .used-count)) in
           e2 ∙ ap₂ (λ a b. map (renewed a h series) b ++ drop u l1) slot-is first-used ∙ ap (λ r. map (renewed (slotFor us (sender h)) h series) us ++ r) k
           ∙ sym (append-assoc (map (renewed (slotFor us (sender h)) h series) us) (fresh us h series) (drop next l))
 

@@ -37,10 +37,10 @@ put-back b y a j =
 
 -- ---- the slots are a book's, lent whole
 
-pub lent-handed : (b m : Bytes) (many known : ℕ) (places numbers : List ℕ) → Handed (used b) (headOf m) (seriesOf m) many known places numbers
-    → Handed (until isFree (cut 512 (take (length b - 512) (drop 512 b)))) (take 512 m) (cut 512 (take (length m - 512) (drop 512 m))) many known places numbers
+pub lent-handed : (b m : Bytes) (usedCount known : ℕ) (places numbers : List ℕ) → Handed (used b) (headOf m) (seriesOf m) usedCount known places numbers
+    → Handed (until isFree (cut 512 (take (length b - 512) (drop 512 b)))) (take 512 m) (cut 512 (take (length m - 512) (drop 512 m))) usedCount known places numbers
 unfolding slots used headOf seriesOf
-lent-handed b m many known places numbers f = rw (rest-slice 512 b, rest-slice 512 m) f
+lent-handed b m usedCount known places numbers f = rw (rest-slice 512 b, rest-slice 512 m) f
 
 module _ (b m : Bytes) (f : Fits b m) where
   pub head-lent : (512 ≡ length (take 512 m)) × (512 ≤ length m)

@@ -170,7 +170,7 @@ module _ (p : ℕ → Block → Bool) (l : List Block) where
             rw (q, ← y, add-one k) (getD-set-same n k _ 0 v ∙ a b w))
 
   pub none : (h n : List ℕ) → zeros h ≡ true → length h ≡ 1024 → length n ≡ 1000 → (m : ℕ) → length l ≤ m → Links p l m h n
-  none h n z v w m k = record { begin = heads-none h z m k; go-on = nexts-none n m k; buckets = v; many = w }
+  none h n z v w m k = record { begin = heads-none h z m k; go-on = nexts-none n m k; buckets = v; nexts-length = w }
 
   module _ (h n : List ℕ) {x : Block} where
     pub left-out : (i : ℕ) → 0 < i → i ≤ length l → Links p l i h n → x ≡ getD l (i - 1) [] → ((g : ℕ) → p g x ≡ false) → Links p l (i - 1) h n
@@ -178,7 +178,7 @@ module _ (p : ℕ → Block → Bool) (l : List Block) where
     left-out (suc k) c d a e f =
         let z : suc k - 1 ≡ k = omega arith in
         let y : x ≡ getD l k [] = rw z at e in
-        rw z (record { begin = heads-left-at k (omega arith) h n (a .begin) (rw y at f); go-on = nexts-left-at k (omega arith) h n (a .begin) (a .go-on) (rw y at f); buckets = a .buckets; many = a .many })
+        rw z (record { begin = heads-left-at k (omega arith) h n (a .begin) (rw y at f); go-on = nexts-left-at k (omega arith) h n (a .begin) (a .go-on) (rw y at f); buckets = a .buckets; nexts-length = a .nexts-length })
 
     pub put : (i b : ℕ) → 0 < i → i ≤ length l → i ≤ 1000 → Links p l i h n → x ≡ getD l (i - 1) [] → ((g : ℕ) → p g x ≡ is b g) → b < 1024 → Links p l (i - 1) (set h b i) (set n (i - 1) (getD h b 0))
     put zero b c d t a e f w = absurd (omega arith)
@@ -187,9 +187,9 @@ module _ (p : ℕ → Block → Bool) (l : List Block) where
         let y : x ≡ getD l k [] = rw z at e in
         rw z (record {
           begin = heads-put-at k (omega arith) h n (a .begin) b (rw y at f) (omega (arith, a .buckets));
-          go-on = nexts-put-at k (omega arith) h n (a .begin) (a .go-on) b (rw y at f) w (omega (arith, a .many));
+          go-on = nexts-put-at k (omega arith) h n (a .begin) (a .go-on) b (rw y at f) w (omega (arith, a .nexts-length));
           buckets = length-set h b (suc k) ∙ a .buckets;
-          many = length-set n k (getD h b 0) ∙ a .many;
+          nexts-length = length-set n k (getD h b 0) ∙ a .nexts-length;
         })
 
 pub all-linked : (p : ℕ → Block → Bool) (l : List Block) (h n : List ℕ) (i : ℕ) → i ≤ 0 → Links p l i h n → Links p l 0 h n

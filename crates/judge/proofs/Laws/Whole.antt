@@ -76,5 +76,5 @@ pub judged-book : (b m us : Bytes) {v : Verdict} {d : Block} {slot free : ℕ} {
 judged-book b m us e k a q = record {
   verdict = q;
   handed = λ z.
-      record { used-many = used-length b us e; senders-slot = k ∙ ap (λ u. slotOf u (sender (headOf m))) e; stored = rw e at (a .found z .0); sent = rw e at (a .found z .1) };
+      record { used-count = used-length b us e; senders-slot = k ∙ ap (λ u. slotOf u (sender (headOf m))) e; stored = rw e at (a .found z .0); sent = rw e at (a .found z .1) };
 }
