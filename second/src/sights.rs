@@ -3,7 +3,7 @@
 use crate::block::*;
 use crate::book::SoundBook;
 use crate::clause::cases;
-use crate::counts::Position;
+use crate::counts::{Position, LATEST_MINUTE, LONGEST_LEAD};
 use crate::crafted::sealed;
 use crate::desk::Reply;
 use crate::identifier::{fails_by_hyphen_alone, is_valid_eic};
@@ -37,6 +37,8 @@ cases! {
         QuantityAndAboveN "rule 11 or 12, and 13",
         QuantityAboveClosed "rule 11, 12 or 13, and 14 at a lower position",
         LaterSeriesEarlierRule "a later series breaks an earlier rule",
+        ClockBeyondLast "clock refused a minute after the last",
+        LeadBeyondLongest "open refused for a lead of 1,441",
         HyphenArea "open refused for the area's hyphen",
         HyphenReceiver "open refused for the receiver's hyphen",
         HyphenSender "rule 4 for the hyphen",
@@ -81,7 +83,10 @@ pub fn sights(record: &Record, reply: &Reply, book: &[u8]) -> Vec<Sight> {
             None => acceptance(message, book),
             Some(broken) => refusal(message, verdict, broken, book),
         },
-        (Record::Open { area, receiver, .. }, Reply::Open(21)) => refused_opening(area, receiver),
+        (Record::Open { lead, area, receiver, .. }, Reply::Open(21)) => refused_opening(*lead, area, receiver),
+        (Record::Clock(minute), Reply::Clock { number: 22, .. }) => {
+            held(&[(*minute == LATEST_MINUTE + 1, Sight::ClockBeyondLast)])
+        }
         (Record::Eic(text), Reply::Eic(false)) => refused_eic(text),
         (Record::Listing, Reply::Listing(text)) => listing_given(text, book.len()),
         (Record::Final { out_party, in_party, .. }, Reply::Final { number: 0, value }) => {
@@ -231,8 +236,9 @@ fn listing_given(text: &[u8], length: usize) -> Vec<Sight> {
     ])
 }
 
-fn refused_opening(area: &[u8], receiver: &[u8]) -> Vec<Sight> {
+fn refused_opening(lead: u16, area: &[u8], receiver: &[u8]) -> Vec<Sight> {
     held(&[
+        (lead == LONGEST_LEAD + 1, Sight::LeadBeyondLongest),
         (fails_by_hyphen_alone(area) && is_valid_eic(receiver), Sight::HyphenArea),
         (fails_by_hyphen_alone(receiver) && is_valid_eic(area), Sight::HyphenReceiver),
     ])

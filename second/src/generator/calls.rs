@@ -48,7 +48,8 @@ impl Generator {
                 edge(ahead) + random.below(2) as i32
             }
             4 => i32::from(kept) - random.between(1, 20) as i32,
-            5 => random.pick(&[i32::from(LATEST_MINUTE) + 1, 65_535, 32_768, 20_000]),
+            5 if random.percent(30) => random.pick(&[65_535, 32_768, 20_000]),
+            5 => i32::from(LATEST_MINUTE) + 1,
             6 => random.between(0, usize::from(LATEST_MINUTE)) as i32,
             _ => i32::from(LATEST_MINUTE),
         };

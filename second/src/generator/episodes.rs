@@ -86,7 +86,7 @@ impl Generator {
             self.queue.push_back(open);
         }
         self.queue.push_back(Record::Length(length as u32));
-        while self.random.percent(38) {
+        while self.random.percent(48) {
             let open = self.wrong_opening();
             self.queue.push_back(open);
         }
@@ -125,9 +125,10 @@ impl Generator {
             _ => unreachable!("an opening was made"),
         };
         for _ in 0..random.pick(&[1, 1, 1, 2]) {
-            match random.below(12) {
+            match random.below(13) {
                 0 => *n = random.pick(&[0, 91, 93, 95, 97, 99, 101, 255, 24]),
-                1 => *lead = random.pick(&[LONGEST_LEAD + 1, 65_535, 2_880]),
+                1 => *lead = random.pick(&[65_535, 2_880]),
+                11 => *lead = LONGEST_LEAD + 1,
                 2 => {
                     if let Some(digit) = day.last_mut() {
                         *digit = random.pick(b"/: A\0");
