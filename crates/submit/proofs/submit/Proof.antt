@@ -1,11 +1,11 @@
 -- A refusal leaves the book as it was, by the definition; a verdict of 0 gives what the acceptance relies on.
-use Rattle.laws.specs.Kit.{needs}
+use Rattle.laws.specs.Kit.{needs, arith}
 use Rattle.submit.proofs.Laws.{submitted-refused, submitted-accepted, accepted-fits}
 use Rattle.submit.proofs.submit.Statement.{statement}
 use Rattle.submit.proofs.submit.Tie as tie
 
 returns : tie.Need-returns
-returns c = let j = c .before .before .before .judge-book .ensures .verdict in (j, submitted-refused _ _ _ j (c .if1 .taken))
+returns c = let j = c .before .before .before .judge-book .ensures .verdict in (j, submitted-refused _ _ _ j (λ z. omega (arith, z, c .if1 .taken)))
 
 accept-requires : tie.Need-accept-requires
 accept-requires c κs =
