@@ -14,11 +14,11 @@ use Rattle.cases.specs.Examples.{seller, buyer, head, steady, butAt, sale, purc
 use Rattle.message_words.specs.Words.{before, behind, linesUpTo, lines, word, value, skipped, numberOf, firstOf, lastOf}
 use Rattle.layout.specs.Written.{padded, withFront, withSeriesCount, withBusinessType, withField, withQuantity}
 use Rattle.layout.specs.Written.{withN as nWritten, withVersion as versionWritten}
-use Rattle.message_text.specs.MessageText.{withText, withVersion, withN, withArea, spread, withPositions, senderField, seriesField, inSender, inSeries, inBlock, fieldLaid, newBlock, newSeries, withBlock, counted, begun, withLine, started, withLines, messageText}
+use Rattle.message_text.specs.MessageText.{withText, withVersion, withN, withArea, spread, withPositions, senderField, seriesField, inSender, inSeries, inBlock, fieldLaid, newBlock, newSeries, withBlock, counted, begun, withLine, started, withLines, unlessWrong, messageText}
 
 -- to name it on an `unfolding` line opens the text form
 unfoldable pub textForm : ℕ
-unfolding before behind linesUpTo lines word value skipped numberOf firstOf lastOf padded withFront withSeriesCount withBusinessType withField withQuantity nWritten versionWritten withText withVersion withN withArea spread withPositions senderField seriesField inSender inSeries inBlock fieldLaid newBlock newSeries withBlock counted begun withLine started withLines messageText
+unfolding before behind linesUpTo lines word value skipped numberOf firstOf lastOf padded withFront withSeriesCount withBusinessType withField withQuantity nWritten versionWritten withText withVersion withN withArea spread withPositions senderField seriesField inSender inSeries inBlock fieldLaid newBlock newSeries withBlock counted begun withLine started withLines unlessWrong messageText
 textForm = 0
 
 -- the buffer after it, which held sevens
@@ -39,6 +39,11 @@ ofBuyer = "# as document 01's listing has it\nmessage PLAN\nversion 1\nsender 14
 pub buyerFiles : laidInto 1024 ofBuyer ≡ head buyer 1 1 ++ purchase 1 (butAt 2 44000 (steady 45000))
 unfolding paper examples textForm ofBuyer
 buyerFiles = refl
+
+-- a wrong line leaves the buffer as it was
+pub nothingLaid : laidInto 1024 "n 96\nseries A\nversion 2\nnote X\n" ≡ replicate 1024 7
+unfolding paper textForm
+nothingLaid = refl
 
 -- two series of different versions break no rule 2
 abbrev pub rightMessage : (room : ℕ) → String → Bool

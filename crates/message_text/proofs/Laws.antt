@@ -1,3 +1,4 @@
 -- What the proofs of the text form rest on.
 pub mod Fields
 pub mod Lines
+pub mod Read

@@ -1,4 +1,4 @@
--- The text form of a message: what each line makes of the message's blocks. A line that is wrong ends the reading; what it wrote stays.
+-- The text form of a message: what each line makes of the message's blocks. A line that is wrong ends the reading, and the buffer is left as it was.
 use mathlib.Core.Path.{_≡_}
 use mathlib.Core.Bool.{Bool, true, false, cond}
 use mathlib.Core.List.{List, [], _∷_, _++_}
@@ -106,17 +106,17 @@ newSeries n version id = sealed (withField (field 8 16) id (withBusinessType 2 (
 unfoldable pub counted : ℕ → Bytes → Bytes
 counted series b = withBlock 0 (sealed (withSeriesCount series (part 0 512 b))) b
 
--- at most 200 series, and room for one more
-unfoldable pub begun : ℕ → Bytes → Bytes → Laid × Bytes
-begun series id b =
-    cond (less series 200 and upto (512 * (series + 2)) (length b))
+-- at most 200 series, and one more fits into a buffer of room bytes
+unfoldable pub begun : (room series : ℕ) (id b : Bytes) → Laid × Bytes
+begun room series id b =
+    cond (less series 200 and upto (512 * (series + 2)) room)
     (laid (upto (length id) 16) (series + 1), withBlock (512 * (series + 1)) (newSeries (nOf b) (version b) id) (counted (series + 1) b))
     (laid false series, b)
 
-unfoldable pub withLine : ℕ → Bytes → Bytes → Laid × Bytes
-withLine series l b =
+unfoldable pub withLine : (room series : ℕ) (l b : Bytes) → Laid × Bytes
+withLine room series l b =
     cond (skipped l) (laid true series, b)
-    (cond (same (word l) (text "series")) (begun series (value l) b) (fieldLaid series (word l) (value l) b))
+    (cond (same (word l) (text "series")) (begun room series (value l) b) (fieldLaid series (word l) (value l) b))
 
 -- ---- the whole text
 
@@ -128,10 +128,14 @@ abbrev pub wrongAt : ℕ → TextRead
 wrongAt line = record { line = line; length = 0 }
 
 -- the lines behind the first k, of which the last gave m
-unfoldable pub withLines : ℕ → Laid × Bytes → List Bytes → TextRead × Bytes
-withLines k m [] = cond (m .0 .fine) (record { line = 0; length = 512 * (m .0 .series + 1) }, m .1) (wrongAt k, m .1)
-withLines k m (l ∷ ls) = cond (m .0 .fine) (withLines (k + 1) (withLine (m .0 .series) l (m .1)) ls) (wrongAt k, m .1)
+unfoldable pub withLines : (room k : ℕ) → Laid × Bytes → List Bytes → TextRead × Bytes
+withLines room k m [] = cond (m .0 .fine) (record { line = 0; length = 512 * (m .0 .series + 1) }, m .1) (wrongAt k, m .1)
+withLines room k m (l ∷ ls) = cond (m .0 .fine) (withLines room (k + 1) (withLine room (m .0 .series) l (m .1)) ls) (wrongAt k, m .1)
+
+-- the buffer b is left as it was where a line is wrong
+unfoldable pub unlessWrong : (b : Bytes) → TextRead × Bytes → TextRead × Bytes
+unlessWrong b p = cond (is (p .0 .line) 0) p (p .0, b)
 
 -- the answer, and the buffer after it: the message's blocks, then what stood there before
-unfoldable pub messageText : Bytes → Bytes → TextRead × Bytes
-messageText t b = cond (less (length b) 512) (wrongAt 1, b) (withLines 0 (laid true 0, started b) (lines t))
+unfoldable pub messageText : (t b : Bytes) → TextRead × Bytes
+messageText t b = cond (less (length b) 512) (wrongAt 1, b) (unlessWrong b (withLines (length b) 0 (laid true 0, started b) (lines t)))

@@ -2,6 +2,7 @@
 ghost use mathlib.Core.Path.{_≡_};
 ghost use Prim.Native.Nat.{_+_, _*_, _≤_};
 ghost use mathlib.Core.Bool.{true};
+ghost use mathlib.Core.List.{[]};
 ghost use lib.ListN.{length};
 ghost use Rattle.paper.specs.Check.{sealed};
 ghost use Rattle.layout.specs.Written.{withSeriesCount};
@@ -88,7 +89,7 @@ fn count_series(block: &mut [u8], series: usize)
 
 fn begin_series(buffer: &mut [u8], series: usize, id: &[u8]) -> Laid
     requires { ⌜ 512 * (series + 1) ≤ length (now buffer) ⌝ }
-    ensures { λ r. ⌜ (Gives (begun series (now (id .entry)) (now (buffer .entry))) r (now (buffer .exit))) × (512 * (r .series + 1) ≤ length (now (buffer .entry))) ⌝ }
+    ensures { λ r. ⌜ (Gives (begun (length (now (buffer .entry))) series (now (id .entry)) (now (buffer .entry))) r (now (buffer .exit))) × (512 * (r .series + 1) ≤ length (now (buffer .entry))) ⌝ }
 {
     if 200 <= series {
         return Laid {
@@ -115,7 +116,7 @@ fn begin_series(buffer: &mut [u8], series: usize, id: &[u8]) -> Laid
 
 fn lay_line(buffer: &mut [u8], series: usize, line: &[u8]) -> Laid
     requires { ⌜ 512 * (series + 1) ≤ length (now buffer) ⌝ }
-    ensures { λ r. ⌜ (Gives (withLine series (now (line .entry)) (now (buffer .entry))) r (now (buffer .exit))) × (512 * (r .series + 1) ≤ length (now (buffer .entry))) ⌝ }
+    ensures { λ r. ⌜ (Gives (withLine (length (now (buffer .entry))) series (now (line .entry)) (now (buffer .entry))) r (now (buffer .exit))) × (512 * (r .series + 1) ≤ length (now (buffer .entry))) ⌝ }
 {
     if skipped(line) {
         return Laid { fine: true, series };
@@ -139,7 +140,7 @@ fn write_start(block: &mut [u8])
 // The first wrong line ends the reading.
 fn lay_lines(buffer: &mut [u8], text: &[u8]) -> TextRead
     requires { ⌜ 512 ≤ length (now buffer) ⌝ }
-    ensures { λ r. ⌜ Gives (withLines 0 (laid true 0, now (buffer .entry)) (lines (now (text .entry)))) r (now (buffer .exit)) ⌝ }
+    ensures { λ r. ⌜ Gives (withLines (length (now (buffer .entry))) 0 (laid true 0, now (buffer .entry)) (lines (now (text .entry)))) r (now (buffer .exit)) ⌝ }
 {
     let mut series = 0;
     let mut number = 0;
@@ -162,12 +163,92 @@ fn lay_lines(buffer: &mut [u8], text: &[u8]) -> TextRead
     }
 }
 
-// The message's blocks, from a text. A buffer with no room for the sender's block is refused at line 1.
+// ---- a text read before anything is written
+
+// Whether a value is fine does not depend on the block that it would stand in.
+fn field_fine(series: usize, w: &[u8], v: &[u8]) -> bool
+    ensures { λ r. ⌜ r ≡ (inBlock series (now (w .entry)) (now (v .entry)) []) .0 ⌝ }
+{
+    let mut x = [0u8; 512];
+    in_block(&mut x, series, w, v)
+}
+
+fn series_read(room: usize, series: usize, id: &[u8]) -> Laid
+    requires { ⌜ series ≤ 200 ⌝ }
+    ensures { λ r. ⌜ (r ≡ (begun room series (now (id .entry)) []) .0) × (r .series ≤ 200) ⌝ }
+{
+    if 200 <= series {
+        return Laid {
+            fine: false,
+            series,
+        };
+    }
+    if room < 512 * (series + 2) {
+        return Laid {
+            fine: false,
+            series,
+        };
+    }
+    Laid {
+        fine: id.len() <= 16,
+        series: series + 1,
+    }
+}
+
+fn line_read(room: usize, series: usize, line: &[u8]) -> Laid
+    requires { ⌜ series ≤ 200 ⌝ }
+    ensures { λ r. ⌜ (r ≡ (withLine room series (now (line .entry)) []) .0) × (r .series ≤ 200) ⌝ }
+{
+    if skipped(line) {
+        return Laid { fine: true, series };
+    }
+    let w = word(line);
+    let v = value(line);
+    if same(w, b"series") {
+        return series_read(room, series, v);
+    }
+    Laid {
+        fine: field_fine(series, w, v),
+        series,
+    }
+}
+
+// What laying the lines into a buffer of so many bytes would answer.
+fn read_lines(room: usize, text: &[u8]) -> TextRead
+    ensures { λ r. ⌜ r ≡ (withLines room 0 (laid true 0, []) (lines (now (text .entry)))) .0 ⌝ }
+{
+    let mut series = 0;
+    let mut number = 0;
+    let mut at = 0;
+    while at < text.len() {
+        let laid = line_read(room, series, line_at(text, at));
+        number += 1;
+        if !laid.fine {
+            return TextRead {
+                line: number,
+                length: 0,
+            };
+        }
+        series = laid.series;
+        at = next_line(text, at);
+    }
+    TextRead {
+        line: 0,
+        length: 512 * (series + 1),
+    }
+}
+
+// The message's blocks, from a text. A buffer with no room for the sender's block is refused at line 1. The text is read before it is laid, so that a wrong
+// line leaves the buffer as it was.
 pub fn message_from_text(text: &[u8], buffer: &mut [u8]) -> TextRead
     ensures { λ r. ⌜ Gives (messageText (now (text .entry)) (now (buffer .entry))) r (now (buffer .exit)) ⌝ }
 {
     if buffer.len() < 512 {
         return TextRead { line: 1, length: 0 };
+    }
+    let read = read_lines(buffer.len(), text);
+    if read.line != 0 {
+        return read;
     }
     write_start(&mut buffer[..512]);
     lay_lines(buffer, text)

@@ -45,48 +45,48 @@ started-back b y e = front-back b y ∙ ap (λ z. withBlock 0 z b) e
 
 -- ---- a series begun
 
-module _ (series : ℕ) (id b : Bytes) where
-  pub begun-many : 200 ≤ series → Gives (begun series id b) (laid false series) b
+module _ (room series : ℕ) (id b : Bytes) where
+  pub begun-many : 200 ≤ series → Gives (begun room series id b) (laid false series) b
   unfolding begun
-  begun-many h = let z : (less series 200 and upto (512 * (series + 2)) (length b)) ≡ false = and-no-left _ _ (less-false _ _ h) in (rw z, rw z)
+  begun-many h = let z : (less series 200 and upto (512 * (series + 2)) room) ≡ false = and-no-left _ _ (less-false _ _ h) in (rw z, rw z)
 
-  pub begun-short : length b < 512 * (series + 1) + 512 → Gives (begun series id b) (laid false series) b
+  pub begun-short : room < 512 * (series + 1) + 512 → Gives (begun room series id b) (laid false series) b
   unfolding begun
   begun-short h =
-      let l : length b < 512 * (series + 2) = omega arith in
-      let z : (less series 200 and upto (512 * (series + 2)) (length b)) ≡ false = and-no-right _ _ (upto-false _ _ l) in
+      let l : room < 512 * (series + 2) = omega arith in
+      let z : (less series 200 and upto (512 * (series + 2)) room) ≡ false = and-no-right _ _ (upto-false _ _ l) in
       (rw z, rw z)
 
-  pub begun-fits : series < 200 → 512 * (series + 1) + 512 ≤ length b → {n v : ℕ} {h y : Block} → n ≡ nOf b → v ≡ version b
+  pub begun-fits : series < 200 → 512 * (series + 1) + 512 ≤ room → {n v : ℕ} {h y : Block} → n ≡ nOf b → v ≡ version b
       → h ≡ sealed (withSeriesCount (series + 1) (take 512 b))
       → y ≡ newSeries n v id
-      → (let c = h ++ drop 512 b in Gives (begun series id b) (laid (upto (length id) 16) (series + 1)) (take (512 * (series + 1)) c ++ (y ++ drop (512 * (series + 1) + 512 - 512 * (series + 1)) (drop (512 * (series + 1)) c))))
+      → (let c = h ++ drop 512 b in Gives (begun room series id b) (laid (upto (length id) 16) (series + 1)) (take (512 * (series + 1)) c ++ (y ++ drop (512 * (series + 1) + 512 - 512 * (series + 1)) (drop (512 * (series + 1)) c))))
   unfolding begun counted part
   begun-fits s l {h = h} {y = y} en ev qh qy =
-      let z : (less series 200 and upto (512 * (series + 2)) (length b)) ≡ true = and-both _ _ (less-true _ _ s) (upto-true _ _ (omega arith)) in
+      let z : (less series 200 and upto (512 * (series + 2)) room) ≡ true = and-both _ _ (less-true _ _ s) (upto-true _ _ (omega arith)) in
       (rw z, rw (z, front-back b h, ← en, ← ev, ← qh, ← qy) (block-back (512 * (series + 1)) (withBlock 0 h b) y))
 
 -- ---- the lines
 
-module _ (k : ℕ) (m : Laid × Bytes) where
-  pub lines-wrong : (ls : List Bytes) → m .0 .fine ≡ false → withLines k m ls ≡ (wrongAt k, m .1)
+module _ (room k : ℕ) (m : Laid × Bytes) where
+  pub lines-wrong : (ls : List Bytes) → m .0 .fine ≡ false → withLines room k m ls ≡ (wrongAt k, m .1)
   unfolding withLines
   lines-wrong [] e = rw e
   lines-wrong (l ∷ ls) e = rw e
 
 -- t is what is left of the text, b the message so far, r what all lines give
-module _ (k series : ℕ) (t b : Bytes) {r : TextRead × Bytes} (e : withLines k (laid true series, b) (lines t) ≡ r) where
+module _ (room k series : ℕ) (t b : Bytes) {r : TextRead × Bytes} (e : withLines room k (laid true series, b) (lines t) ≡ r) where
   -- the next line gives x and c
-  module _ {l : Bytes} {x : Laid} {c : Bytes} (h : 0 < length t) (f : l ≡ before 10 t) (q : Gives (withLine series l b) x c) where
-    next : withLines (k + 1) (x, c) (lines (behind 10 t)) ≡ r
+  module _ {l : Bytes} {x : Laid} {c : Bytes} (h : 0 < length t) (f : l ≡ before 10 t) (n : length b ≡ room) (q : Gives (withLine (length b) series l b) x c) where
+    next : withLines room (k + 1) (x, c) (lines (behind 10 t)) ≡ r
     unfolding withLines
-    next = rw (q .0, q .1, f) (rw (lines-more t h) at e)
+    next = let g = rw n at q in rw (g .0, g .1, f) (rw (lines-more t h) at e)
 
-    pub lines-on : {u : Bytes} → x .fine ≡ true → u ≡ behind 10 t → withLines (k + 1) (laid true (x .series), c) (lines u) ≡ r
-    lines-on {u} n g = rw (g, ← n) next
+    pub lines-on : {u : Bytes} → x .fine ≡ true → u ≡ behind 10 t → withLines room (k + 1) (laid true (x .series), c) (lines u) ≡ r
+    lines-on {u} fine g = rw (g, ← fine) next
 
     pub lines-stop : x .fine ≡ false → Gives r (wrongAt (k + 1)) c
-    lines-stop n = let p = sym (lines-wrong (k + 1) (x, c) (lines (behind 10 t)) n) ∙ next in (ap (λ a. a .0) p, ap (λ a. a .1) p)
+    lines-stop wrong = let p = sym (lines-wrong room (k + 1) (x, c) (lines (behind 10 t)) wrong) ∙ next in (ap (λ a. a .0) p, ap (λ a. a .1) p)
 
   pub lines-end : length t ≤ 0 → Gives r (record { line = 0; length = 512 * (series + 1) }) b
   unfolding withLines

@@ -8,10 +8,10 @@ use Rattle.message_text.proofs.begin_series.Statement.{statement}
 use Rattle.message_text.proofs.begin_series.Tie as tie
 
 returns : tie.Need-returns
-returns c = (begun-many _ _ _ (c .if1 .taken), search needs)
+returns c = (begun-many _ _ _ _ (c .if1 .taken), search needs)
 
 returns-2 : tie.Need-returns-2
-returns-2 c = (begun-short _ _ _ (c .if2 .taken), search needs)
+returns-2 c = (begun-short _ _ _ _ (c .if2 .taken), search needs)
 
 slice-aggregate-count-series : tie.Need-slice-aggregate-count-series
 slice-aggregate-count-series c =
@@ -28,7 +28,7 @@ returns-3 c =
     let n = v .before .before in
     let t = n .before .before in
     let s = t .before .before .before .before in
-    (begun-fits (s .args .series) (now (s .args .id)) (now (s .args .buffer)) (omega arith) (t .if2 .left) (n .n-of .ensures) (v .version .ensures) (h .count-series .ensures) (w .write-series .ensures), omega arith)
+    (begun-fits (length (now (s .args .buffer))) (s .args .series) (now (s .args .id)) (now (s .args .buffer)) (omega arith) (t .if2 .left) (n .n-of .ensures) (v .version .ensures) (h .count-series .ensures) (w .write-series .ensures), omega arith)
 
 pub begin-series-spec : {M : Type 1} → statement M
 begin-series-spec = tie.close (tie.spec

@@ -9,7 +9,7 @@ use Rattle.message_text.proofs.lay_lines.Statement.{statement}
 use Rattle.message_text.proofs.lay_lines.Tie as tie
 
 abbrev Inv-loop : tie.InvT-loop
-Inv-loop buffer₀ text series₀ number₀ at₀ buffer series number at = (at ≤ length text) × (number ≤ at) × (512 * (series + 1) ≤ length buffer₀) × (length buffer ≡ length buffer₀) × (withLines number (laid true series, buffer) (lines (drop at text)) ≡ withLines 0 (laid true 0, buffer₀) (lines text))
+Inv-loop buffer₀ text series₀ number₀ at₀ buffer series number at = (at ≤ length text) × (number ≤ at) × (512 * (series + 1) ≤ length buffer₀) × (length buffer ≡ length buffer₀) × (withLines (length buffer₀) number (laid true series, buffer) (lines (drop at text)) ≡ withLines (length buffer₀) 0 (laid true 0, buffer₀) (lines text))
 
 abbrev μ-loop : tie.MeasureT-loop
 μ-loop buffer₀ text series₀ number₀ at₀ buffer series number at = length text - at
@@ -25,7 +25,7 @@ returns c =
     let l = i .before .loop in
     let t = now (i .before .before .before .before .args .text) in
     let h : 0 < length (drop (l .at) t) = rw (length-drop (l .at) t) (omega arith) in
-    lines-stop (l .number) (l .series) (drop (l .at) t) (l .buffer) (l .inv .4) h (x .line-at .ensures) (y .lay-line .ensures .0) (denied refl (c .if1 .taken))
+    lines-stop _ (l .number) (l .series) (drop (l .at) t) (l .buffer) (l .inv .4) h (x .line-at .ensures) (l .inv .3) (y .lay-line .ensures .0) (denied refl (c .if1 .taken))
 
 loop-again : tie.Need-loop-again Inv-loop μ-loop
 loop-again c =
@@ -40,7 +40,7 @@ loop-again c =
       search needs,
       omega (arith, y .lay-line .ensures .1),
       search needs,
-      lines-on (l .number) (l .series) (drop (l .at) t) (l .buffer) (l .inv .4) h (x .line-at .ensures) (y .lay-line .ensures .0) (told refl (z .if1 .left)) (c .next-line .ensures .0),
+      lines-on _ (l .number) (l .series) (drop (l .at) t) (l .buffer) (l .inv .4) h (x .line-at .ensures) (l .inv .3) (y .lay-line .ensures .0) (told refl (z .if1 .left)) (c .next-line .ensures .0),
     )
 
 returns-2 : tie.Need-returns-2 Inv-loop μ-loop
@@ -48,7 +48,7 @@ returns-2 c =
     let l = c .before .loop in
     let t = now (c .before .before .before .before .args .text) in
     let h : length (drop (l .at) t) ≤ 0 = rw (length-drop (l .at) t) (omega arith) in
-    lines-end (l .number) (l .series) (drop (l .at) t) (l .buffer) (l .inv .4) h
+    lines-end _ (l .number) (l .series) (drop (l .at) t) (l .buffer) (l .inv .4) h
 
 pub lay-lines-spec : {M : Type 1} → statement M
 lay-lines-spec = tie.close (tie.spec
