@@ -9,11 +9,13 @@ fn read_as(text: &[u8], kilowatts: u32) -> bool {
     line::say(b"number of quantity text ");
     let a = line::number(text, 0, read.number);
     line::say(b"kilowatts of quantity text ");
-    a & line::number(text, kilowatts, read.kilowatts)
+    line::both(a, line::number(text, kilowatts, read.kilowatts))
 }
 
 pub fn quantities() -> bool {
-    read_as(b"0.194", 194) & read_as(b"9999.999", 9999999) & read_as(b"60.0", 60000)
+    let a = read_as(b"0.194", 194);
+    let b = read_as(b"9999.999", 9999999);
+    line::both(line::both(a, b), read_as(b"60.0", 60000))
 }
 
 pub fn printed() -> bool {

@@ -5,6 +5,8 @@ mod leaves;
 mod line;
 mod table;
 
+use field::part_of;
+
 fn leaves_right(book: &mut [u8]) -> bool {
     let a = table::cases(
         book,
@@ -25,7 +27,7 @@ fn leaves_right(book: &mut [u8]) -> bool {
         kw|||30|number of quantity text \"\";\
         kw|-0||31|number of quantity text \"-0\";",
     );
-    a & b & c & leaves::printed()
+    line::both(line::both(a, b), line::both(c, leaves::printed()))
 }
 
 // `submit` files the seller's message, by its head and the series behind its first; `message` files a text as it stands. Position 4 is closed at clock 15 and
@@ -63,15 +65,15 @@ fn days_right(book: &mut [u8]) -> bool {
         submit|message BILANZ\nversion 1||0|the seller's message;\
         message|message EMPFANG\nversion 1\nsender 14XBG-EMPFANG--0\nreceiver 14XAT-APCS-----Q\nday 20190131\nn 96\nseries FPL01\narea 10YAT-APG------L\nin 14XBG-EMPFANG--0\nout 14XBILANZGR-1--F\n1-96 45\n2 44\n||0|the buyer's message;",
     );
-    right & book::listed(book)
+    line::both(right, book::listed(book))
 }
 
 // Every case is run, whatever an earlier one gave.
 pub fn run() {
     let mut room = [0u8; 4096];
-    if leaves_right(&mut room) & days_right(&mut room) {
-        line::say(b"every case came as expected: this desk may be put into service\n");
-    } else {
-        line::say(b"a case came otherwise than expected: this desk may not be put into service\n");
-    }
+    let leaves = leaves_right(&mut room);
+    let right = line::both(leaves, days_right(&mut room));
+    let mut last = [0u8; 80];
+    let k = line::put_fitness(&mut last, right);
+    line::say(part_of(&last, 0, k));
 }

@@ -1,7 +1,11 @@
 // A line for each case. What is promised is the answer on which the desk's fitness is decided; no contract can speak of what is written.
 ghost use mathlib.Core.Path.{_≡_};
-ghost use Rattle.laws.specs.Tests.{is};
+ghost use mathlib.Core.Bool.{cond};
+ghost use Rattle.laws.specs.Tests.{_and_, is};
 ghost use Rattle.laws.specs.Lists.{same};
+ghost use Rattle.paper.specs.Listing.{text};
+ghost use Rattle.desk_text.specs.Put.{Put};
+use desk_text::put::put;
 use libc::STDOUT_FILENO;
 
 pub fn say(text: &[u8]) {
@@ -17,6 +21,31 @@ fn verdict(right: bool) -> bool
         say(b": WRONG\n");
     }
     right
+}
+
+// The one place where cases are joined: all of them must have come as expected.
+pub fn both(a: bool, b: bool) -> bool
+    ensures { λ r. ⌜ r ≡ (a and b) ⌝ }
+{
+    a & b
+}
+
+// The last line, on which the desk is put into service.
+pub fn put_fitness(line: &mut [u8], right: bool) -> usize
+    ensures { λ r. ⌜ Put 0 (cond right (text "every case came as expected: this desk may be put into service\n") (text "a case came otherwise than expected: this desk may not be put into service\n")) r (now (line .entry)) (now (line .exit)) ⌝ }
+{
+    if right {
+        return put(
+            line,
+            0,
+            b"every case came as expected: this desk may be put into service\n",
+        );
+    }
+    put(
+        line,
+        0,
+        b"a case came otherwise than expected: this desk may not be put into service\n",
+    )
 }
 
 // A case whose answer is a number.

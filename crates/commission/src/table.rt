@@ -1,5 +1,9 @@
 // Cases in a table of one text: a semicolon behind each row; in a row, between bars, a word of the desk or `check`, two arguments, the number expected, of five
 // digits at most, and what is told.
+ghost use mathlib.Core.Path.{_≡_};
+ghost use Rattle.laws.specs.Tests.{_and_, _or_, less};
+ghost use Rattle.laws.specs.Lists.{same};
+ghost use Rattle.paper.specs.Listing.{text};
 use crate::book;
 use crate::leaves;
 use crate::line;
@@ -22,16 +26,25 @@ fn came(book: &mut [u8], command: usize, argument: &[u8], more: &[u8]) -> u32 {
     }
 }
 
+// A row that says no call, or no number, is wrong whatever comes.
+fn stated(word: &[u8], command: usize, read: bool) -> bool
+    ensures { λ r. ⌜ r ≡ (read and (less 0 command or same (now (word .entry)) (text "check"))) ⌝ }
+{
+    read & ((0 < command) | field::same(word, b"check"))
+}
+
 fn case(book: &mut [u8], row: &[u8]) -> bool {
-    let command = command_number(piece_numbered(row, b'|', 0));
+    let word = piece_numbered(row, b'|', 0);
+    let command = command_number(word);
     let came = came(
         book,
         command,
         piece_numbered(row, b'|', 1),
         piece_numbered(row, b'|', 2),
     );
-    let expected = number_read(piece_numbered(row, b'|', 3)).value;
-    line::number(piece_numbered(row, b'|', 4), expected, came)
+    let expected = number_read(piece_numbered(row, b'|', 3));
+    let right = line::number(piece_numbered(row, b'|', 4), expected.value, came);
+    line::both(right, stated(word, command, expected.read))
 }
 
 // Up to the first row that is empty, as every one past the last is.
@@ -43,7 +56,7 @@ pub fn cases(book: &mut [u8], table: &[u8]) -> bool {
         if row.len() == 0 {
             return right;
         }
-        right = case(book, row) & right;
+        right = line::both(case(book, row), right);
         k += 1;
     }
     right

@@ -9,10 +9,11 @@ use desk_files::say;
 use desk_text::numbers::minute_read;
 use desk_text::numbers::number_read;
 use desk_text::words::word;
+use field::same;
 
 fn usage() {
     say(
-        b"wrong use: desk COMMAND ...\n  desk open BOOK BLOCKS N LEAD DAY AREA RECEIVER   a new book; BLOCKS 2 to 1001, N 92, 96 or 100, LEAD in minutes, DAY as 20190131\n  desk clock BOOK MINUTE                           minutes from the day's start, -10080 to 1500\n  desk submit BOOK MESSAGE                         a message in a file\n  desk mark BOOK SENDER ID                         the mark of a series\n  desk block BOOK SENDER ID                        the accepted block of a series\n  desk final BOOK SELLER BUYER POSITION            the final value at a closed position\n  desk plain BOOK                                  whether every kept mark and net is true\n  desk list BOOK                                   the listing of a book of at most 64 blocks\n  desk message TEXT MESSAGE                        a message made from its text form\n  desk eic CODE                                    whether a code is a valid EIC\n  desk kw TEXT                                     a quantity text in MW, read and printed\n  desk commission                                  whether this desk may be put into service\n",
+        b"wrong use: desk COMMAND ...\n  desk open BOOK BLOCKS N LEAD DAY AREA RECEIVER   a new book; BLOCKS 2 to 1001, N 92, 96 or 100, LEAD in minutes, DAY as 20190131; the word replace behind it replaces a file that is there\n  desk clock BOOK MINUTE                           minutes from the day's start, -10080 to 1500\n  desk submit BOOK MESSAGE                         a message in a file\n  desk mark BOOK SENDER ID                         the mark of a series\n  desk block BOOK SENDER ID                        the accepted block of a series\n  desk final BOOK SELLER BUYER POSITION            the final value at a closed position\n  desk plain BOOK                                  whether every kept mark and net is true\n  desk list BOOK                                   the listing of a book of at most 64 blocks\n  desk message TEXT MESSAGE                        a message made from its text form\n  desk eic CODE                                    whether a code is a valid EIC\n  desk kw TEXT                                     a quantity text in MW, read and printed\n  desk commission                                  whether this desk may be put into service\n",
     );
 }
 
@@ -53,10 +54,18 @@ fn final_value(words: &[u8]) {
     ask(Question::Final(position.value as usize), words);
 }
 
+// An opening has one word more where it is to replace a file.
+fn arguments_of_open(words: &[u8]) -> usize {
+    if same(word(words, 9), b"replace") {
+        return 10;
+    }
+    9
+}
+
 // How many arguments the program is started with for a command, its own name among them; never 0, which stands for no command.
-fn arguments_of(command: usize) -> usize {
+fn arguments_of(command: usize, words: &[u8]) -> usize {
     match command {
-        1 => 9,
+        1 => arguments_of_open(words),
         2 | 3 | 9 => 4,
         4 | 5 => 5,
         6 => 6,
@@ -86,16 +95,16 @@ fn run(command: usize, words: &[u8]) {
 
 fn command(words: &[u8]) {
     let command = desk_text::arguments::command_number(word(words, 1));
-    if os::arg_count() != arguments_of(command) {
+    if os::arg_count() != arguments_of(command, words) {
         usage();
         return;
     }
     run(command, words);
 }
 
-// Room for nine arguments of 4,096 bytes, with the zero byte behind each.
+// Room for ten arguments of 4,096 bytes, with the zero byte behind each.
 fn main() {
-    let mut words = [0u8; 36873];
+    let mut words = [0u8; 40970];
     desk_files::arguments::take_all(&mut words);
     command(&words);
 }

@@ -1,13 +1,15 @@
 // Files read whole, and replaced whole or not at all: the one way of every change and of every reading.
-ghost use Rattle.io.specs.Counts.{Counts};
+ghost use mathlib.Core.Path.{_≡_};
 use desk_answers::Change;
 use desk_answers::Question;
 use desk_answers::Told;
 use desk_text::arguments::book_length;
-use desk_text::put::put;
+use desk_text::arguments::folder_length;
+use desk_text::arguments::put_beside;
 use desk_text::words::line_numbered;
 use desk_text::words::word;
 use field::part_of;
+use field::same;
 use field::within;
 use libc::STDOUT_FILENO;
 
@@ -38,13 +40,17 @@ const NOT_WRITTEN: usize = 8;
 
 const NOT_NAMED: usize = 9;
 
+const NOT_KEPT: usize = 10;
+
+const IS_THERE: usize = 11;
+
 pub fn say(text: &[u8]) {
     io::write_all(STDOUT_FILENO, text);
 }
 
 fn say_why(why: usize) {
     let lines =
-        b"there is no such file\nthe file cannot be opened\nthe file cannot be read\nthe file is longer than a book of 1001 blocks\nthe file is longer than a message of 201 blocks\nthe file is longer than the text of any message\nthe file is there; another desk changes the book, or one was cut off and the file is to be removed\nthe file cannot be made\nthe new book cannot be written\nthe new book cannot take this name\n";
+        b"there is no such file\nthe file cannot be opened\nthe file cannot be read\nthe file is longer than a book of 1001 blocks\nthe file is longer than a message of 201 blocks\nthe file is longer than the text of any message\nthe file is there; another desk changes the book, or one was cut off and the file is to be removed\nthe file cannot be made\nthe new book cannot be written\nthe new book cannot take this name\nthe new book has this name, but a power cut may bring back what stood here before\nthe file is there; the word replace at the end of the command replaces it\n";
     say(line_numbered(lines, why));
 }
 
@@ -96,15 +102,6 @@ pub fn load_word(words: &[u8], k: usize, room: &mut [u8], too_long: usize) -> us
 
 // ---- a change
 
-// The name of the file beside a book that the new book is written to. One that the buffer has no room for fills it, and is too long for the system.
-fn beside(path: &[u8], name: &mut [u8]) -> usize
-    ensures { λ r. ⌜ Counts r (now (name .exit)) ⌝ }
-{
-    let behind = put(name, 0, path);
-    let end = put(name, behind, b".new");
-    within(end, name)
-}
-
 // Made before the book is read, and only where it is not there yet: so no two desks change one book at a time.
 fn begin(name: &[u8]) -> i32 {
     let fd = os::create(name);
@@ -127,9 +124,31 @@ fn abandon(fd: i32, name: &[u8]) {
 
 fn written(fd: i32, book: &[u8]) -> bool {
     let all = io::write_all(fd, book);
-    let synced = libc::fsync(fd);
+    all & synced(fd)
+}
+
+// What stands behind the descriptor reaches the disk.
+fn synced(fd: i32) -> bool {
+    let reached = libc::fsync(fd);
     let closed = libc::close(fd);
-    all & (synced >= 0) & (closed >= 0)
+    (reached >= 0) & (closed >= 0)
+}
+
+fn open_folder(path: &[u8]) -> i32 {
+    let k = folder_length(path);
+    if k == 0 {
+        return os::open_read(b".");
+    }
+    os::open_read(part_of(path, 0, k))
+}
+
+// A name outlasts a power cut only once its folder has reached the disk.
+fn name_synced(path: &[u8]) -> bool {
+    let fd = open_folder(path);
+    if fd < 0 {
+        return false;
+    }
+    synced(fd)
 }
 
 fn not_replaced(name: &[u8], path: &[u8], why: usize) -> bool {
@@ -138,13 +157,19 @@ fn not_replaced(name: &[u8], path: &[u8], why: usize) -> bool {
     false
 }
 
-// The new book takes the old one's name in one step; false, and the old book stays, where it can't.
-fn replace(fd: i32, name: &[u8], path: &[u8], book: &[u8]) -> bool {
+// The new book takes the old one's name in one step; false, and the old book stays, where it can't. No call but one whose number is 0 has a book to keep.
+fn replace(fd: i32, name: &[u8], path: &[u8], book: &[u8], number: usize) -> bool
+    requires { ⌜ number ≡ 0 ⌝ }
+{
     if !written(fd, book) {
         return not_replaced(name, name, NOT_WRITTEN);
     }
     if os::rename(name, path) < 0 {
         return not_replaced(name, path, NOT_NAMED);
+    }
+    if !name_synced(path) {
+        failed(path, NOT_KEPT);
+        return false;
     }
     true
 }
@@ -152,12 +177,13 @@ fn replace(fd: i32, name: &[u8], path: &[u8], book: &[u8]) -> bool {
 // An acceptance is told once the new book has its name, a refusal once the old one is left.
 fn settle(fd: i32, name: &[u8], path: &[u8], told: Told, book: &[u8], line: &[u8]) {
     let k = told.length;
-    if told.number != 0 {
+    let number = told.number as usize;
+    if number != 0 {
         abandon(fd, name);
         say(part_of(line, 0, k));
         return;
     }
-    if replace(fd, name, path, book) {
+    if replace(fd, name, path, book, number) {
         say(part_of(line, 0, k));
     }
 }
@@ -169,16 +195,32 @@ fn run(what: Change, fd: i32, name: &[u8], path: &[u8], book: &mut [u8], given: 
     settle(fd, name, path, told, book, &line);
 }
 
+// A file that is there is replaced by a new book only on purpose, by the last word of the command.
+fn room_of_new(blocks: u32, path: &[u8], words: &[u8]) -> usize {
+    if same(word(words, 9), b"replace") {
+        return book_length(blocks);
+    }
+    let fd = os::open_read(path);
+    if fd >= 0 {
+        libc::close(fd);
+        return failed(path, IS_THERE);
+    }
+    if os::errno() == libc::ENOENT {
+        return book_length(blocks);
+    }
+    failed(path, NOT_OPENED)
+}
+
 // An opening does not look at what stood in the file before.
-fn room_for(what: Change, path: &[u8], room: &mut [u8]) -> usize {
+fn room_for(what: Change, path: &[u8], room: &mut [u8], given: &[u8]) -> usize {
     match what {
-        Change::Open(numbers) => book_length(numbers.blocks),
+        Change::Open(numbers) => room_of_new(numbers.blocks, path, given),
         _ => load(path, room, NO_BOOK),
     }
 }
 
 fn change_in(what: Change, fd: i32, name: &[u8], path: &[u8], room: &mut [u8], given: &[u8]) {
-    let length = room_for(what, path, room);
+    let length = room_for(what, path, room, given);
     if length == NOT_LOADED {
         abandon(fd, name);
         return;
@@ -196,10 +238,12 @@ fn change_beside(what: Change, name: &[u8], path: &[u8], given: &[u8]) {
     change_in(what, fd, name, path, &mut room, given);
 }
 
-// The one way of every change: a file is made beside the book, the book loaded, the call run, the new book kept or not, and the answer told.
+// The one way of every change: a file is made beside the book, the book loaded, the call run, the new book kept or not, and the answer told. A name that the
+// buffer has no room for fills it, and is too long for the system.
 pub fn change(what: Change, path: &[u8], given: &[u8]) {
     let mut name = io::buffer();
-    let n = beside(path, &mut name);
+    let end = put_beside(&mut name, path);
+    let n = within(end, &name);
     change_beside(what, &name[..n], path, given);
 }
 

@@ -1,14 +1,15 @@
 // Messages in files: handed in, and made from their text form.
+ghost use mathlib.Core.Path.{_≡_};
 use crate::NO_MESSAGE;
 use crate::NO_TEXT;
 use crate::NOT_LOADED;
 use crate::begin;
-use crate::beside;
 use crate::change;
 use crate::load_word;
 use crate::replace;
 use crate::say;
 use desk_answers::Change;
+use desk_text::arguments::put_beside;
 use desk_text::words::word;
 use field::part_of;
 use field::within;
@@ -40,20 +41,25 @@ fn made(length: usize) {
     say(b" bytes\n");
 }
 
-fn write_message(path: &[u8], name: &[u8], message: &[u8]) {
+fn write_message(path: &[u8], name: &[u8], message: &[u8], line: usize)
+    requires { ⌜ line ≡ 0 ⌝ }
+{
     let fd = begin(name);
     if fd < 0 {
         return;
     }
-    if replace(fd, name, path, message) {
+    if replace(fd, name, path, message, line) {
         made(message.len());
     }
 }
 
-fn write_beside(path: &[u8], message: &[u8]) {
+fn write_beside(path: &[u8], message: &[u8], line: usize)
+    requires { ⌜ line ≡ 0 ⌝ }
+{
     let mut name = io::buffer();
-    let n = beside(path, &mut name);
-    write_message(path, &name[..n], message);
+    let end = put_beside(&mut name, path);
+    let n = within(end, &name);
+    write_message(path, &name[..n], message, line);
 }
 
 // Nothing is written of a wrong text.
@@ -64,7 +70,7 @@ fn message_in(path: &[u8], text: &[u8], room: &mut [u8]) {
         return;
     }
     let k = within(read.length, room);
-    write_beside(path, &room[..k]);
+    write_beside(path, &room[..k], read.line);
 }
 
 fn message_of(words: &[u8], text: &[u8]) {

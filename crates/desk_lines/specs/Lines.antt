@@ -12,7 +12,9 @@ use Rattle.paper.specs.declared.PlainRunAnswer.{PlainRunAnswer}
 use Rattle.paper.specs.declared.QuantityRead.{QuantityRead}
 use Rattle.paper.specs.Layout.{Bytes, Block, nOf, version, idOf, inParty, outParty, state, first, partner, quantities, entry}
 use Rattle.paper.specs.Ids.{idText}
-use Rattle.paper.specs.Codes.{reasonCode}
+use Rattle.paper.specs.declared.Reply.{Reply}
+use Rattle.paper.specs.Codes.{reasonCode, acknowledgement, uninterpretableMessage, replyTo}
+use Rattle.paper.specs.Marks.{stateCode}
 use Rattle.paper.specs.Listing.{text}
 use Rattle.paper.specs.QuantityText.{lastDigits, quantityText}
 use Rattle.desk_text.specs.Numbers.{numberText, minuteText}
@@ -55,8 +57,18 @@ megawatts kilowatts = cond (less 9999999 kilowatts) [] (quantityText kilowatts)
 
 -- ---- the lines
 
+-- a refusal carries its reason code beside A02
+unfoldable pub reasonText : (reply : Reply) → Bytes
+reasonText reply = cond (is (reply .status) 1) [] (text " with" ++ codeText (reply .code))
+
+-- how the sender is answered: by an acknowledgement with its codes, or without one by the mail, or by the desk's own notice
+unfoldable pub replyText : (reply : Reply) → Bytes
+replyText reply =
+    cond (is (reply .kind) acknowledgement) (text "; answered by" ++ codeText (reply .status) ++ reasonText reply)
+    (cond (is (reply .kind) uninterpretableMessage) (text "; answered by the uninterpretable-message mail") (text "; answered by a desk notice"))
+
 unfoldable pub verdictLine : (v : Verdict) → Bytes
-verdictLine v = answerText (v .number) (v .code) (v .series) (v .position .0) ++ text "\n"
+verdictLine v = answerText (v .number) (v .code) (v .series) (v .position .0) ++ replyText (replyTo (v .number)) ++ text "\n"
 
 unfoldable pub numberLine : (number : ℕ) → Bytes
 numberLine number = answerOf number ++ text "\n"
@@ -72,11 +84,15 @@ dayText day = worded (text ": n ") (day .n) ++ worded (text " lead ") (day .lead
 unfoldable pub clockLine : (a : ClockAnswer) → Bytes
 clockLine a = answerOf (a .number) ++ cond (is (a .number) 1) (text "\n") (dayText (a .state))
 
-unfoldable pub markText : (state first partner : ℕ) → Bytes
-markText state first partner = worded (text "state ") state ++ worded (text " first ") first ++ worded (text " partner ") partner ++ text ", " ++ stateMeaning state
+-- A28 or A09 where a state has a code, and what it means
+unfoldable pub stateText : (state code : ℕ) → Bytes
+stateText state code = codeText code ++ text ", " ++ stateMeaning state
+
+unfoldable pub markText : (state first partner code : ℕ) → Bytes
+markText state first partner code = worded (text "state ") state ++ worded (text " first ") first ++ worded (text " partner ") partner ++ stateText state code
 
 unfoldable pub markLine : (a : MarkAnswer) → Bytes
-markLine a = telling (a .number) (text ": " ++ markText (a .state) (a .first .0) (a .partner .0) ++ text "\n")
+markLine a = telling (a .number) (text ": " ++ markText (a .state) (a .first .0) (a .partner .0) (a .code) ++ text "\n")
 
 unfoldable pub finalLine : (a : FinalAnswer) → Bytes
 finalLine a = telling (a .number) (text ": " ++ megawatts (a .kilowatts) ++ text " MW\n")
@@ -103,7 +119,7 @@ unfoldable pub nameText : (x : Block) → Bytes
 nameText x = (text ": series " ++ idText (idOf x)) ++ worded (text " version ") (version x) ++ (text " in " ++ inParty x) ++ (text " out " ++ outParty x)
 
 unfoldable pub seriesText : (x : Block) → Bytes
-seriesText x = nameText x ++ text " " ++ markText (state x) (first x) (partner x)
+seriesText x = nameText x ++ text " " ++ markText (state x) (first x) (partner x) (stateCode (state x))
 
 -- number is that of the mark's call, which tells an unsound book from an unknown series
 unfoldable pub blockLine : (number : ℕ) (x : Block) → Bytes

@@ -5,7 +5,7 @@ ghost use Prim.Native.Nat.{_≤_, _<_};
 ghost use Rattle.paper.specs.Layout.{state, first, partner, entry};
 ghost use Rattle.paper.specs.Listing.{text};
 ghost use Rattle.desk_text.specs.Put.{Put};
-ghost use Rattle.desk_lines.specs.Lines.{worded, named, codeText, status, reason, answerText, answerOf, megawatts, markText, dayText, nameText, seriesText, quantitiesText};
+ghost use Rattle.desk_lines.specs.Lines.{worded, named, codeText, status, reason, answerText, answerOf, megawatts, reasonText, replyText, stateText, markText, dayText, nameText, seriesText, quantitiesText};
 ghost use Rattle.desk_lines.specs.Lines.{verdictLine, numberLine, clockLine, markLine, finalLine, plainLine, quantityLine, eicLine, blockLine};
 use desk_text::numbers::put_digits;
 use desk_text::numbers::put_minute;
@@ -20,6 +20,7 @@ use paper::FinalAnswer;
 use paper::MarkAnswer;
 use paper::PlainRunAnswer;
 use paper::QuantityRead;
+use paper::Reply;
 use paper::Verdict;
 
 fn put_worded(line: &mut [u8], at: usize, word: &[u8], x: usize) -> usize
@@ -97,7 +98,33 @@ fn put_answer_of(line: &mut [u8], number: u32) -> usize
     put_answer(line, number, codes::reason_code(number), 0, 0)
 }
 
-// Where a rule is broken is told with it.
+// A02 alone has a reason code beside it.
+fn put_reason_code(line: &mut [u8], at: usize, reply: Reply) -> usize
+    ensures { λ r. ⌜ Put at (reasonText reply) r (now (line .entry)) (now (line .exit)) ⌝ }
+{
+    if reply.status == 1 {
+        return put(line, at, b"");
+    }
+    let behind = put(line, at, b" with");
+    put_code(line, behind, reply.code)
+}
+
+// How the sender is answered.
+fn put_reply(line: &mut [u8], at: usize, reply: Reply) -> usize
+    ensures { λ r. ⌜ Put at (replyText reply) r (now (line .entry)) (now (line .exit)) ⌝ }
+{
+    if reply.kind == 1 {
+        return put(line, at, b"; answered by the uninterpretable-message mail");
+    }
+    if reply.kind != 0 {
+        return put(line, at, b"; answered by a desk notice");
+    }
+    let a = put(line, at, b"; answered by");
+    let b = put_code(line, a, reply.status);
+    put_reason_code(line, b, reply)
+}
+
+// Where a rule is broken is told with it, and how the sender is answered.
 pub fn verdict_line(line: &mut [u8], verdict: Verdict) -> usize
     ensures { λ r. ⌜ Put 0 (verdictLine verdict) r (now (line .entry)) (now (line .exit)) ⌝ }
 {
@@ -108,7 +135,8 @@ pub fn verdict_line(line: &mut [u8], verdict: Verdict) -> usize
         verdict.series,
         verdict.position.0,
     );
-    put(line, a, b"\n")
+    let b = put_reply(line, a, codes::reply(verdict.number));
+    put(line, b, b"\n")
 }
 
 pub fn number_line(line: &mut [u8], number: u32) -> usize
@@ -139,14 +167,21 @@ pub fn clock_line(line: &mut [u8], answer: ClockAnswer) -> usize
     put_day(line, a, answer.state)
 }
 
-fn put_mark(line: &mut [u8], at: usize, state: u8, first: usize, partner: usize) -> usize
-    ensures { λ r. ⌜ Put at (markText state first partner) r (now (line .entry)) (now (line .exit)) ⌝ }
+fn put_state(line: &mut [u8], at: usize, state: u8, code: u8) -> usize
+    ensures { λ r. ⌜ Put at (stateText state code) r (now (line .entry)) (now (line .exit)) ⌝ }
+{
+    let a = put_code(line, at, code);
+    let b = put(line, a, b", ");
+    put_state_meaning(line, b, state as usize)
+}
+
+fn put_mark(line: &mut [u8], at: usize, state: u8, first: usize, partner: usize, code: u8) -> usize
+    ensures { λ r. ⌜ Put at (markText state first partner code) r (now (line .entry)) (now (line .exit)) ⌝ }
 {
     let a = put_worded(line, at, b"state ", state as usize);
     let b = put_worded(line, a, b" first ", first);
     let c = put_worded(line, b, b" partner ", partner);
-    let d = put(line, c, b", ");
-    put_state_meaning(line, d, state as usize)
+    put_state(line, c, state, code)
 }
 
 pub fn mark_line(line: &mut [u8], answer: MarkAnswer) -> usize
@@ -157,7 +192,14 @@ pub fn mark_line(line: &mut [u8], answer: MarkAnswer) -> usize
         return put(line, a, b"\n");
     }
     let b = put(line, a, b": ");
-    let c = put_mark(line, b, answer.state, answer.first.0, answer.partner.0);
+    let c = put_mark(
+        line,
+        b,
+        answer.state,
+        answer.first.0,
+        answer.partner.0,
+        answer.code,
+    );
     put(line, c, b"\n")
 }
 
@@ -232,12 +274,14 @@ fn put_series(line: &mut [u8], at: usize, x: &[u8]) -> usize
 {
     let a = put_name(line, at, x);
     let b = put(line, a, b" ");
+    let state = layout::state(x);
     put_mark(
         line,
         b,
-        layout::state(x),
+        state,
         layout::first(x).0,
         layout::partner(x).0,
+        codes::state_code(state),
     )
 }
 

@@ -1,12 +1,13 @@
 -- Laws of the loops: a text put byte by byte, its pieces passed by, the command that a word names.
 use mathlib.Core.Path.{_≡_, sym, ap, _∙_}
-use mathlib.Core.Bool.{true, false}
+use mathlib.Core.Bool.{true, false, cond}
 use mathlib.Core.List.{List}
 use Prim.Native.Nat.{ℕ, zero, suc, _+_, _-_, _≤_, _<_}
 use native.Mathlib.Numerals.{add-one}
 use native.Mathlib.Omega.{arith}
 use lib.ListN.{length, drop, getD, set, drop-of-length-le}
 use lib.Seq.{drop-cons, drop-drop}
+use Rattle.laws.specs.Tests.{is}
 use Rattle.laws.specs.Lists.{same}
 use Rattle.laws.specs.Bytes.{written}
 use Rattle.laws.specs.Bytes.Laws.{written-none, written-cons}
@@ -14,7 +15,7 @@ use Rattle.laws.specs.Slices.{written-past}
 use Rattle.desk_text.specs.Put.{Put}
 use Rattle.desk_text.specs.Put.Laws.{within-inside, within-past}
 use Rattle.desk_text.specs.Words.{firstPiece, pastPiece, pastPieces, lineNumbered, commands}
-use Rattle.desk_text.specs.Arguments.{commandFrom}
+use Rattle.desk_text.specs.Arguments.{commandFrom, behindLast}
 
 -- ---- put, byte by byte
 
@@ -75,3 +76,14 @@ module _ (k : ℕ) (w : List ℕ) where
   unfolding commandFrom
   command-end zero h p = p
   command-end (suc left) h p = absurd (omega arith)
+
+-- ---- the last byte of a kind
+
+module _ (end k at : ℕ) (s : List ℕ) where
+  pub last-turn : {t : ℕ} → k < length s → behindLast end k at (drop k s) ≡ t → behindLast end (k + 1) (cond (is (getD s k 0) end) (k + 1) at) (drop (k + 1) s) ≡ t
+  unfolding behindLast
+  last-turn h e = ap (λ n. behindLast end (k + 1) (cond (is (getD s k 0) end) (k + 1) at) (drop n s)) (add-one k) ∙ (rw (drop-cons s k 0 h) at e)
+
+  pub last-end : {t : ℕ} → length s ≤ k → behindLast end k at (drop k s) ≡ t → at ≡ t
+  unfolding behindLast
+  last-end h e = rw (drop-of-length-le s h) at e

@@ -1,11 +1,13 @@
 -- What the desk makes of its arguments.
 use mathlib.Core.Bool.{cond}
+use mathlib.Core.List.{[], _∷_, _++_}
 use Prim.Native.Nat.{ℕ, zero, suc, _+_, _*_}
 use lib.ListN.{length, replicate}
-use Rattle.laws.specs.Tests.{less}
+use Rattle.laws.specs.Tests.{is, less}
 use Rattle.laws.specs.Lists.{same}
 use Rattle.laws.specs.Bytes.{written}
 use Rattle.paper.specs.Layout.{Bytes}
+use Rattle.paper.specs.Listing.{text}
 use Rattle.desk_text.specs.Put.{within}
 use Rattle.desk_text.specs.Words.{lineNumbered, commands}
 
@@ -31,3 +33,18 @@ wordValue x = within x 65535
 -- no block at all, which is no book, stands for every number above 1,001
 unfoldable pub bookLength : ℕ → ℕ
 bookLength blocks = cond (less 1001 blocks) 0 (512 * blocks)
+
+-- ---- files
+
+-- the file beside a book that the new book is written to
+unfoldable pub beside : (path : Bytes) → Bytes
+beside path = path ++ text ".new"
+
+-- the place behind the last byte that is `end`, of a text whose first k bytes are passed and have it before `at`
+unfoldable pub behindLast : (end k at : ℕ) (s : Bytes) → ℕ
+behindLast end k at [] = at
+behindLast end k at (x ∷ s) = behindLast end (k + 1) (cond (is x end) (k + 1) at) s
+
+-- how many bytes of a path name the folder: those up to its last slash, 47
+unfoldable pub folderLength : (path : Bytes) → ℕ
+folderLength path = behindLast 47 0 0 path

@@ -81,7 +81,7 @@ meaning number = lineNumbered number meanings
 -- ---- what a state means
 
 unfoldable pub states : Bytes
-states = lines (text "" ∷ text "A28, the other party has no such series" ∷ text "every quarter-hour agrees" ∷ text "A09, the two sides differ" ∷ [])
+states = lines (text "" ∷ text "the other party has no such series" ∷ text "every quarter-hour agrees" ∷ text "the two sides differ" ∷ [])
 
 unfoldable pub stateMeaning : ℕ → Bytes
 stateMeaning state = lineNumbered state states

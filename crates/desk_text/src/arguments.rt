@@ -3,7 +3,11 @@ ghost use mathlib.Core.Path.{_≡_};
 ghost use Prim.Native.Nat.{_≤_};
 ghost use Rattle.laws.specs.Lists.{same};
 ghost use Rattle.desk_text.specs.Words.{lineNumbered, commands};
-ghost use Rattle.desk_text.specs.Arguments.{commandNumber, idField, byteValue, wordValue, bookLength};
+ghost use mathlib.Core.Bool.{cond};
+ghost use lib.ListN.{length};
+ghost use Rattle.laws.specs.Tests.{is};
+ghost use Rattle.desk_text.specs.Put.{Put};
+ghost use Rattle.desk_text.specs.Arguments.{commandNumber, idField, byteValue, wordValue, bookLength, beside, folderLength};
 use crate::put::put;
 use crate::words::line_numbered;
 use field::same;
@@ -70,4 +74,36 @@ pub fn book_length(blocks: u32) -> usize
         return 0;
     }
     512 * blocks as usize
+}
+
+// The name of the file beside a book that the new book is written to.
+pub fn put_beside(name: &mut [u8], path: &[u8]) -> usize
+    ensures { λ r. ⌜ Put 0 (beside (now (path .entry))) r (now (name .entry)) (now (name .exit)) ⌝ }
+{
+    let behind = put(name, 0, path);
+    put(name, behind, b".new")
+}
+
+// The place behind a slash, 47, else the one before.
+fn behind_slash(byte: u8, behind: usize, at: usize) -> usize
+    requires { ⌜ at ≤ behind ⌝ }
+    ensures { λ r. ⌜ (r ≡ cond (is byte 47) behind at) × (r ≤ behind) ⌝ }
+{
+    if byte == 47 {
+        return behind;
+    }
+    at
+}
+
+// How many bytes of a path, up to its last slash, name the folder that the file stands in; 0 where it stands in the folder that the program is started in.
+pub fn folder_length(path: &[u8]) -> usize
+    ensures { λ r. ⌜ (r ≡ folderLength (now (path .entry))) × (r ≤ length (now (path .entry))) ⌝ }
+{
+    let mut at = 0;
+    let mut k = 0;
+    while k < path.len() {
+        at = behind_slash(path[k], k + 1, at);
+        k += 1;
+    }
+    at
 }

@@ -68,6 +68,6 @@ pub fn put_state_meaning(line: &mut [u8], at: usize, state: usize) -> usize
     ensures { λ r. ⌜ Put at (stateMeaning state) r (now (line .entry)) (now (line .exit)) ⌝ }
 {
     let words =
-        b"\nA28, the other party has no such series\nevery quarter-hour agrees\nA09, the two sides differ\n";
+        b"\nthe other party has no such series\nevery quarter-hour agrees\nthe two sides differ\n";
     put(line, at, line_numbered(words, state))
 }

@@ -8,7 +8,9 @@ use Rattle.desk_lines.proofs.put_series.Tie as tie
 
 returns : tie.Need-returns
 unfolding seriesText text
-returns c = then (then (c .before .before .before .before .before .before .before .before .before .before .before .before .before .before .put-name .ensures) (c .before .before .before .before .before .before .before .before .before .put .ensures)) (rw (← c .before .before .before .before .before .state .ensures, ← c .before .before .before .before .first .ensures, ← c .before .before .before .partner .ensures) (c .before .before .put-mark .ensures))
+returns c =
+    then (then (c .before .before .before .before .before .before .before .before .before .before .before .before .before .before .before .put-name .ensures) (c .before .before .before .before .before .before .before .before .before .before .put .ensures))
+    (rw (← c .before .before .before .before .before .first .ensures, ← c .before .before .before .before .partner .ensures, ← c .before .before .before .before .before .before .before .state .ensures, ← c .before .before .before .state-code .ensures) (c .before .before .put-mark .ensures))
 
 pub put-series-spec : {M : Type 1} → statement M
-put-series-spec = tie.close (tie.spec (λ c κs. tt) (λ c. omega arith) (λ c κs. tt) (λ c κs. tt) (λ c κs. tt) (λ c. omega arith) (λ c κs. tt) (search needs) returns)
+put-series-spec = tie.close (tie.spec (λ c κs. tt) (λ c. omega arith) (λ c κs. tt) (λ c κs. tt) (λ c κs. tt) (λ c κs. tt) (λ c κs. tt) (λ c κs. tt) (search needs) returns)

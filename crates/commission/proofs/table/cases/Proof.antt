@@ -10,4 +10,4 @@ abbrev μ-loop : tie.MeasureT-loop
 μ-loop book₀ table right₀ k₀ book right k = length table - k
 
 pub cases-spec : {M : Type 1} → statement M
-cases-spec = tie.close (tie.spec Inv-loop μ-loop (λ c. refl) (λ c κs. tt) (search needs) (λ c. tt) (λ c κs. tt) (λ c. omega arith) (λ c. omega arith) (search needs) (search needs) (λ c. tt))
+cases-spec = tie.close (tie.spec Inv-loop μ-loop (λ c. refl) (λ c κs. tt) (search needs) (λ c. tt) (λ c κs. tt) (λ c κs. tt) (λ c. omega arith) (λ c. omega arith) (search needs) (search needs) (λ c. tt))

@@ -4,10 +4,10 @@ use Rattle.desk_files.proofs.arguments.take_all.Statement.{statement}
 use Rattle.desk_files.proofs.arguments.take_all.Tie as tie
 
 abbrev Inv-loop : tie.InvT-loop
-Inv-loop words₀ at₀ i₀ words at i = (length words ≡ length words₀) × (i ≤ 9)
+Inv-loop words₀ at₀ i₀ words at i = (length words ≡ length words₀) × (i ≤ 10)
 
 abbrev μ-loop : tie.MeasureT-loop
-μ-loop words₀ at₀ i₀ words at i = 9 - i
+μ-loop words₀ at₀ i₀ words at i = 10 - i
 
 pub take-all-spec : {M : Type 1} → statement M
 take-all-spec = tie.close (tie.spec Inv-loop μ-loop (search needs) (search needs) (search needs) (search needs) (search needs) (search needs) (search needs))

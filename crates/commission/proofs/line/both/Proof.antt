@@ -1,0 +1,12 @@
+-- The code's `&` is the definition's.
+use Rattle.laws.specs.Kit.{needs, refl}
+use Rattle.laws.specs.Tests.{_and_}
+use Rattle.commission.proofs.line.both.Statement.{statement}
+use Rattle.commission.proofs.line.both.Tie as tie
+
+returns : tie.Need-returns
+unfolding _and_
+returns c = refl
+
+pub both-spec : {M : Type 1} → statement M
+both-spec = tie.close (tie.spec returns)

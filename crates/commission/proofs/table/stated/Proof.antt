@@ -1,0 +1,13 @@
+-- The code's `&` and `|` are the definition's.
+use Rattle.laws.specs.Kit.{needs, arith}
+use Rattle.laws.specs.Tests.{_and_, _or_, less}
+use Rattle.paper.specs.Listing.{text}
+use Rattle.commission.proofs.table.stated.Statement.{statement}
+use Rattle.commission.proofs.table.stated.Tie as tie
+
+returns : tie.Need-returns
+unfolding _and_ _or_ less text
+returns c = cc
+
+pub stated-spec : {M : Type 1} → statement M
+stated-spec = tie.close (tie.spec (λ c. omega arith) (search needs) returns)
