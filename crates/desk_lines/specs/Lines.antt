@@ -16,23 +16,12 @@ use Rattle.paper.specs.declared.Reply.{Reply}
 use Rattle.paper.specs.Codes.{reasonCode, acknowledgement, uninterpretableMessage, replyTo}
 use Rattle.paper.specs.Marks.{stateCode}
 use Rattle.paper.specs.Listing.{text}
-use Rattle.paper.specs.QuantityText.{lastDigits, quantityText}
-use Rattle.desk_text.specs.Numbers.{numberText, minuteText}
+use Rattle.paper.specs.QuantityText.{quantityText}
+use Rattle.desk_text.specs.Numbers.{minuteText}
+use Rattle.desk_text.specs.Pieces.{worded, named, codeText}
 use Rattle.desk_text.specs.Words.{meaning, stateMeaning}
 
 -- ---- the parts of a line
-
--- a word and a number
-unfoldable pub worded : (word : Bytes) (x : ℕ) → Bytes
-worded word x = word ++ numberText x
-
--- nothing where the number is 0
-unfoldable pub named : (word : Bytes) (x : ℕ) → Bytes
-named word x = cond (is x 0) [] (worded word x)
-
--- A53 behind a space, A04 with its zero; nothing where a number has no code
-unfoldable pub codeText : (code : ℕ) → Bytes
-codeText code = cond (is code 0) [] (text " A" ++ lastDigits 2 code)
 
 -- accepted or refused, and the number
 unfoldable pub status : (number : ℕ) → Bytes

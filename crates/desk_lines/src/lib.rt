@@ -5,11 +5,12 @@ ghost use Prim.Native.Nat.{_≤_, _<_};
 ghost use Rattle.paper.specs.Layout.{state, first, partner, entry};
 ghost use Rattle.paper.specs.Listing.{text};
 ghost use Rattle.desk_text.specs.Put.{Put};
-ghost use Rattle.desk_lines.specs.Lines.{worded, named, codeText, status, reason, answerText, answerOf, megawatts, reasonText, replyText, stateText, markText, dayText, nameText, seriesText, quantitiesText};
+ghost use Rattle.desk_lines.specs.Lines.{status, reason, answerText, answerOf, megawatts, reasonText, replyText, stateText, markText, dayText, nameText, seriesText, quantitiesText};
 ghost use Rattle.desk_lines.specs.Lines.{verdictLine, numberLine, clockLine, markLine, finalLine, plainLine, quantityLine, eicLine, blockLine};
-use desk_text::numbers::put_digits;
 use desk_text::numbers::put_minute;
-use desk_text::numbers::put_number;
+use desk_text::pieces::put_code;
+use desk_text::pieces::put_named;
+use desk_text::pieces::put_worded;
 use desk_text::put::put;
 use desk_text::words::put_meaning;
 use desk_text::words::put_state_meaning;
@@ -22,34 +23,6 @@ use paper::PlainRunAnswer;
 use paper::QuantityRead;
 use paper::Reply;
 use paper::Verdict;
-
-fn put_worded(line: &mut [u8], at: usize, word: &[u8], x: usize) -> usize
-    ensures { λ r. ⌜ Put at (worded (now (word .entry)) x) r (now (line .entry)) (now (line .exit)) ⌝ }
-{
-    let behind = put(line, at, word);
-    put_number(line, behind, x)
-}
-
-// Nothing where the number is 0.
-fn put_named(line: &mut [u8], at: usize, word: &[u8], x: usize) -> usize
-    ensures { λ r. ⌜ Put at (named (now (word .entry)) x) r (now (line .entry)) (now (line .exit)) ⌝ }
-{
-    if x == 0 {
-        return put(line, at, b"");
-    }
-    put_worded(line, at, word, x)
-}
-
-// A04 keeps its zero.
-fn put_code(line: &mut [u8], at: usize, code: u8) -> usize
-    ensures { λ r. ⌜ Put at (codeText code) r (now (line .entry)) (now (line .exit)) ⌝ }
-{
-    if code == 0 {
-        return put(line, at, b"");
-    }
-    let behind = put(line, at, b" A");
-    put_digits(line, behind, 2, code as usize)
-}
 
 fn put_status(line: &mut [u8], number: u32) -> usize
     ensures { λ r. ⌜ Put 0 (status number) r (now (line .entry)) (now (line .exit)) ⌝ }

@@ -1,5 +1,6 @@
 -- What the program desk says and how it reads its arguments.
 pub mod Put
 pub mod Numbers
+pub mod Pieces
 pub mod Words
 pub mod Arguments

@@ -1,7 +1,8 @@
 -- The fields are the block's, and stand one behind the other.
 use Rattle.laws.specs.Kit.{needs, arith, ap}
 use Rattle.paper.specs.Listing.{text}
-use Rattle.desk_lines.specs.Lines.{worded, nameText}
+use Rattle.desk_lines.specs.Lines.{nameText}
+use Rattle.desk_text.specs.Pieces.{worded}
 use Rattle.desk_text.specs.Put.Laws.{called, then}
 use Rattle.desk_lines.proofs.put_name.Statement.{statement}
 use Rattle.desk_lines.proofs.put_name.Tie as tie

@@ -1,9 +1,9 @@
 -- The word, then the number.
 use Rattle.laws.specs.Kit.{needs}
-use Rattle.desk_lines.specs.Lines.{worded}
+use Rattle.desk_text.specs.Pieces.{worded}
 use Rattle.desk_text.specs.Put.Laws.{then}
-use Rattle.desk_lines.proofs.put_worded.Statement.{statement}
-use Rattle.desk_lines.proofs.put_worded.Tie as tie
+use Rattle.desk_text.proofs.pieces.put_worded.Statement.{statement}
+use Rattle.desk_text.proofs.pieces.put_worded.Tie as tie
 
 returns : tie.Need-returns
 unfolding worded
