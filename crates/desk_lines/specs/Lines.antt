@@ -12,13 +12,13 @@ use Rattle.paper.specs.declared.PlainRunAnswer.{PlainRunAnswer}
 use Rattle.paper.specs.declared.QuantityRead.{QuantityRead}
 use Rattle.paper.specs.Layout.{Bytes, Block, nOf, version, idOf, inParty, outParty, state, first, partner, quantities, entry}
 use Rattle.paper.specs.Ids.{idText}
-use Rattle.paper.specs.declared.Reply.{Reply}
-use Rattle.paper.specs.Codes.{reasonCode, acknowledgement, uninterpretableMessage, replyTo}
+use Rattle.paper.specs.Codes.{reasonCode, replyTo}
 use Rattle.paper.specs.Marks.{stateCode}
 use Rattle.paper.specs.Listing.{text}
 use Rattle.paper.specs.QuantityText.{quantityText}
 use Rattle.desk_text.specs.Numbers.{minuteText}
 use Rattle.desk_text.specs.Pieces.{worded, named, codeText}
+use Rattle.desk_text.specs.Replies.{replyText}
 use Rattle.desk_text.specs.Words.{meaning, stateMeaning}
 
 -- ---- the parts of a line
@@ -45,16 +45,6 @@ unfoldable pub megawatts : (kilowatts : ℕ) → Bytes
 megawatts kilowatts = cond (less 9999999 kilowatts) [] (quantityText kilowatts)
 
 -- ---- the lines
-
--- a refusal carries its reason code beside A02
-unfoldable pub reasonText : (reply : Reply) → Bytes
-reasonText reply = cond (is (reply .status) 1) [] (text " with" ++ codeText (reply .code))
-
--- how the sender is answered: by an acknowledgement with its codes, or without one by the mail, or by the desk's own notice
-unfoldable pub replyText : (reply : Reply) → Bytes
-replyText reply =
-    cond (is (reply .kind) acknowledgement) (text "; answered by" ++ codeText (reply .status) ++ reasonText reply)
-    (cond (is (reply .kind) uninterpretableMessage) (text "; answered by the uninterpretable-message mail") (text "; answered by a desk notice"))
 
 unfoldable pub verdictLine : (v : Verdict) → Bytes
 verdictLine v = answerText (v .number) (v .code) (v .series) (v .position .0) ++ replyText (replyTo (v .number)) ++ text "\n"

@@ -5,13 +5,14 @@ ghost use Prim.Native.Nat.{_≤_, _<_};
 ghost use Rattle.paper.specs.Layout.{state, first, partner, entry};
 ghost use Rattle.paper.specs.Listing.{text};
 ghost use Rattle.desk_text.specs.Put.{Put};
-ghost use Rattle.desk_lines.specs.Lines.{status, reason, answerText, answerOf, megawatts, reasonText, replyText, stateText, markText, dayText, nameText, seriesText, quantitiesText};
+ghost use Rattle.desk_lines.specs.Lines.{status, reason, answerText, answerOf, megawatts, stateText, markText, dayText, nameText, seriesText, quantitiesText};
 ghost use Rattle.desk_lines.specs.Lines.{verdictLine, numberLine, clockLine, markLine, finalLine, plainLine, quantityLine, eicLine, blockLine};
 use desk_text::numbers::put_minute;
 use desk_text::pieces::put_code;
 use desk_text::pieces::put_named;
 use desk_text::pieces::put_worded;
 use desk_text::put::put;
+use desk_text::replies::put_reply;
 use desk_text::words::put_meaning;
 use desk_text::words::put_state_meaning;
 use field::id_text;
@@ -21,7 +22,6 @@ use paper::FinalAnswer;
 use paper::MarkAnswer;
 use paper::PlainRunAnswer;
 use paper::QuantityRead;
-use paper::Reply;
 use paper::Verdict;
 
 fn put_status(line: &mut [u8], number: u32) -> usize
@@ -69,32 +69,6 @@ fn put_answer_of(line: &mut [u8], number: u32) -> usize
     ensures { λ r. ⌜ Put 0 (answerOf number) r (now (line .entry)) (now (line .exit)) ⌝ }
 {
     put_answer(line, number, codes::reason_code(number), 0, 0)
-}
-
-// A02 alone has a reason code beside it.
-fn put_reason_code(line: &mut [u8], at: usize, reply: Reply) -> usize
-    ensures { λ r. ⌜ Put at (reasonText reply) r (now (line .entry)) (now (line .exit)) ⌝ }
-{
-    if reply.status == 1 {
-        return put(line, at, b"");
-    }
-    let behind = put(line, at, b" with");
-    put_code(line, behind, reply.code)
-}
-
-// How the sender is answered.
-fn put_reply(line: &mut [u8], at: usize, reply: Reply) -> usize
-    ensures { λ r. ⌜ Put at (replyText reply) r (now (line .entry)) (now (line .exit)) ⌝ }
-{
-    if reply.kind == 1 {
-        return put(line, at, b"; answered by the uninterpretable-message mail");
-    }
-    if reply.kind != 0 {
-        return put(line, at, b"; answered by a desk notice");
-    }
-    let a = put(line, at, b"; answered by");
-    let b = put_code(line, a, reply.status);
-    put_reason_code(line, b, reply)
 }
 
 // Where a rule is broken is told with it, and how the sender is answered.

@@ -2,5 +2,6 @@
 pub mod Put
 pub mod Numbers
 pub mod Pieces
+pub mod Replies
 pub mod Words
 pub mod Arguments

@@ -4,6 +4,7 @@ pub mod arguments;
 pub mod numbers;
 pub mod pieces;
 pub mod put;
+pub mod replies;
 pub mod words;
 
 use paper::Minute;

@@ -3,10 +3,10 @@ use Rattle.laws.specs.Kit.{needs, arith}
 use Rattle.laws.specs.Tests.{is}
 use Rattle.laws.specs.Tests.Laws.{is-equal, is-other}
 use Rattle.paper.specs.Listing.{text}
-use Rattle.desk_lines.specs.Lines.{replyText}
+use Rattle.desk_text.specs.Replies.{replyText}
 use Rattle.desk_text.specs.Put.Laws.{then}
-use Rattle.desk_lines.proofs.put_reply.Statement.{statement}
-use Rattle.desk_lines.proofs.put_reply.Tie as tie
+use Rattle.desk_text.proofs.replies.put_reply.Statement.{statement}
+use Rattle.desk_text.proofs.replies.put_reply.Tie as tie
 
 returns : tie.Need-returns
 unfolding replyText text is

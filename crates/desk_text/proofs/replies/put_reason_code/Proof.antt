@@ -2,10 +2,10 @@
 use Rattle.laws.specs.Kit.{needs, arith}
 use Rattle.laws.specs.Tests.Laws.{is-equal, is-other}
 use Rattle.paper.specs.Listing.{text}
-use Rattle.desk_lines.specs.Lines.{reasonText}
+use Rattle.desk_text.specs.Replies.{reasonText}
 use Rattle.desk_text.specs.Put.Laws.{then}
-use Rattle.desk_lines.proofs.put_reason_code.Statement.{statement}
-use Rattle.desk_lines.proofs.put_reason_code.Tie as tie
+use Rattle.desk_text.proofs.replies.put_reason_code.Statement.{statement}
+use Rattle.desk_text.proofs.replies.put_reason_code.Tie as tie
 
 returns : tie.Need-returns
 unfolding reasonText
