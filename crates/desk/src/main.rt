@@ -1,4 +1,6 @@
 // The technician's program for a day book in a file. Every answer is one line (docs/DESK.md).
+mod arguments;
+
 use desk_answers::Change;
 use desk_answers::Numbers;
 use desk_answers::Question;
@@ -105,6 +107,6 @@ fn command(words: &[u8]) {
 // Room for ten arguments of 4,096 bytes, with the zero byte behind each.
 fn main() {
     let mut words = [0u8; 40970];
-    desk_files::arguments::take_all(&mut words);
+    arguments::take_all(&mut words);
     command(&words);
 }

@@ -13,7 +13,6 @@ use field::same;
 use field::within;
 use libc::STDOUT_FILENO;
 
-pub mod arguments;
 pub mod messages;
 
 // The length of what is not loaded: no room has as many bytes.

@@ -1,7 +1,7 @@
--- Nine arguments are taken, so that fewer are left with each turn.
+-- Ten arguments are taken, so that fewer are left with each turn.
 use Rattle.laws.specs.Kit.{needs, _≡_, _≤_, _-_, length}
-use Rattle.desk_files.proofs.arguments.take_all.Statement.{statement}
-use Rattle.desk_files.proofs.arguments.take_all.Tie as tie
+use Rattle.desk.proofs.arguments.take_all.Statement.{statement}
+use Rattle.desk.proofs.arguments.take_all.Tie as tie
 
 abbrev Inv-loop : tie.InvT-loop
 Inv-loop words₀ at₀ i₀ words at i = (length words ≡ length words₀) × (i ≤ 10)
