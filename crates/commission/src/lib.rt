@@ -1,5 +1,9 @@
 // The check on site: document 01's worked cases ("Both sides of each edge") against the functions of this very program. Each case is a line with what was
-// expected and what came; the last line says whether this desk may be put into service.
+// expected and what came; the last line says whether this desk may be put into service. By the definitions every case gives what is expected, and every
+// function here promises so: a case that comes otherwise tells of the machine, or of what made the program out of its text.
+ghost use mathlib.Core.Path.{_≡_};
+ghost use mathlib.Core.Bool.{true};
+
 mod book;
 mod leaves;
 mod line;
@@ -7,7 +11,9 @@ mod table;
 
 use field::part_of;
 
-fn leaves_right(book: &mut [u8]) -> bool {
+fn leaves_right(book: &mut [u8]) -> bool
+    ensures { λ r. ⌜ r ≡ true ⌝ }
+{
     let a = table::cases(
         book,
         b"eic|10XAT-APG------Z||1|EIC 10XAT-APG------Z;\
@@ -30,16 +36,25 @@ fn leaves_right(book: &mut [u8]) -> bool {
     line::both(line::both(a, b), line::both(c, leaves::printed()))
 }
 
-// `submit` files the seller's message, by its head and the series behind its first; `message` files a text as it stands. Position 4 is closed at clock 15 and
-// lead 45. The buyer files the same as the seller but for 44,000 kW at position 2.
-fn days_right(book: &mut [u8]) -> bool {
-    let right = table::cases(
+fn checks_right(book: &mut [u8]) -> bool
+    ensures { λ r. ⌜ r ≡ true ⌝ }
+{
+    table::cases(
         book,
         b"check|505|1|961|check with byte 505 alone 1;\
         check|506|1|31|check with byte 506 alone 1;\
         check|507|1|1|check with byte 507 alone 1;\
-        check|507|31|31|check with byte 507 alone 31, which collides;\
-        open|45||0|opening;\
+        check|507|31|31|check with byte 507 alone 31, which collides;",
+    )
+}
+
+fn leads_right() -> bool
+    ensures { λ r. ⌜ r ≡ true ⌝ }
+{
+    let mut book = [0u8; 1024];
+    table::cases(
+        &mut book,
+        b"open|45||0|opening;\
         clock|15||0|clock;\
         final|5||25|lead 45, clock 15: final at position 5, still open;\
         clock|16||0|clock;\
@@ -48,31 +63,77 @@ fn days_right(book: &mut [u8]) -> bool {
         clock|0||0|clock;\
         final|1||25|lead 0, clock 0: final at position 1, still open;\
         clock|1||0|clock;\
-        final|1||26|lead 0, clock 1: final at position 1, closed;\
-        open|45||0|opening;\
+        final|1||26|lead 0, clock 1: final at position 1, closed;",
+    )
+}
+
+// `submit` files the seller's message, by its head and the series behind its first; `message` files a text as it stands.
+fn versions_right() -> bool
+    ensures { λ r. ⌜ r ≡ true ⌝ }
+{
+    let mut book = [0u8; 1536];
+    table::cases(
+        &mut book,
+        b"open|45||0|opening;\
         submit|message BILANZ\nversion 1||0|the seller's first message;\
         submit|message BILANZ\nversion 2||0|message with nothing changed;\
         block|||1|and the series version kept;\
         submit|message BILANZ\nversion 2||6|stored version 2, version 2 again;\
         submit|message BILANZ\nversion 4||6|stored version 2, version 4;\
-        submit|message BILANZ\nversion 3||0|stored version 2, version 3;\
-        open|45||0|opening;\
+        submit|message BILANZ\nversion 3||0|stored version 2, version 3;",
+    )
+}
+
+// Position 4 is closed at clock 15 and lead 45.
+fn closed_right() -> bool
+    ensures { λ r. ⌜ r ≡ true ⌝ }
+{
+    let mut book = [0u8; 2048];
+    table::cases(
+        &mut book,
+        b"open|45||0|opening;\
         submit|message BILANZ\nversion 1||0|the seller's first message;\
         clock|15||0|clock;\
         submit|message BILANZ\nversion 2|series TS0002\narea 10YAT-APG------L\nin 14XBILANZGR-1--F\nout 14XBG-EMPFANG--0\n4 0.005\n|14|new series with 5 kW at a closed position;\
-        submit|message BILANZ\nversion 2|series TS0002\narea 10YAT-APG------L\nin 14XBILANZGR-1--F\nout 14XBG-EMPFANG--0\n4 0\n|0|new series with 0 kW there;\
-        open|45||0|opening;\
+        submit|message BILANZ\nversion 2|series TS0002\narea 10YAT-APG------L\nin 14XBILANZGR-1--F\nout 14XBG-EMPFANG--0\n4 0\n|0|new series with 0 kW there;",
+    )
+}
+
+// The buyer files the same as the seller but for 44,000 kW at position 2.
+fn listed_right() -> bool
+    ensures { λ r. ⌜ r ≡ true ⌝ }
+{
+    let mut book = [0u8; 2560];
+    let right = table::cases(
+        &mut book,
+        b"open|45||0|opening;\
         submit|message BILANZ\nversion 1||0|the seller's message;\
         message|message EMPFANG\nversion 1\nsender 14XBG-EMPFANG--0\nreceiver 14XAT-APCS-----Q\nday 20190131\nn 96\nseries FPL01\narea 10YAT-APG------L\nin 14XBG-EMPFANG--0\nout 14XBILANZGR-1--F\n1-96 45\n2 44\n||0|the buyer's message;",
     );
-    line::both(right, book::listed(book))
+    line::both(right, book::listed(&book))
+}
+
+fn days_right() -> bool
+    ensures { λ r. ⌜ r ≡ true ⌝ }
+{
+    let a = leads_right();
+    let b = versions_right();
+    let c = closed_right();
+    line::both(line::both(a, b), line::both(c, listed_right()))
 }
 
 // Every case is run, whatever an earlier one gave.
+fn all_right() -> bool
+    ensures { λ r. ⌜ r ≡ true ⌝ }
+{
+    let mut no_book = [0u8; 1];
+    let a = leaves_right(&mut no_book);
+    let b = checks_right(&mut no_book);
+    line::both(line::both(a, b), days_right())
+}
+
 pub fn run() {
-    let mut room = [0u8; 4096];
-    let leaves = leaves_right(&mut room);
-    let right = line::both(leaves, days_right(&mut room));
+    let right = all_right();
     let mut last = [0u8; 80];
     let k = line::put_fitness(&mut last, right);
     line::say(part_of(&last, 0, k));

@@ -1,9 +1,7 @@
 // Cases in a table of one text: a semicolon behind each row; in a row, between bars, a word of the desk or `check`, two arguments, the number expected, of five
 // digits at most, and what is told.
 ghost use mathlib.Core.Path.{_≡_};
-ghost use Rattle.laws.specs.Tests.{_and_, _or_, less};
-ghost use Rattle.laws.specs.Lists.{same};
-ghost use Rattle.paper.specs.Listing.{text};
+ghost use Rattle.cases_site.specs.Site.{came, bookAfter, stated, rowRight, rowBook, tableRun};
 use crate::book;
 use crate::leaves;
 use crate::line;
@@ -12,7 +10,9 @@ use desk_text::numbers::number_read;
 use desk_text::words::piece_numbered;
 
 // The commands have their numbers in the desk.
-fn came(book: &mut [u8], command: usize, argument: &[u8], more: &[u8]) -> u32 {
+fn came(book: &mut [u8], command: usize, argument: &[u8], more: &[u8]) -> u32
+    ensures { λ r. ⌜ (r ≡ came (now (book .entry)) command (now (argument .entry)) (now (more .entry))) × (now (book .exit) ≡ bookAfter (now (book .entry)) command (now (argument .entry)) (now (more .entry))) ⌝ }
+{
     match command {
         1 => book::opened(book, argument),
         2 => book::clock(book, argument),
@@ -28,12 +28,14 @@ fn came(book: &mut [u8], command: usize, argument: &[u8], more: &[u8]) -> u32 {
 
 // A row that says no call, or no number, is wrong whatever comes.
 fn stated(word: &[u8], command: usize, read: bool) -> bool
-    ensures { λ r. ⌜ r ≡ (read and (less 0 command or same (now (word .entry)) (text "check"))) ⌝ }
+    ensures { λ r. ⌜ r ≡ stated (now (word .entry)) command read ⌝ }
 {
     read & ((0 < command) | field::same(word, b"check"))
 }
 
-fn case(book: &mut [u8], row: &[u8]) -> bool {
+fn case(book: &mut [u8], row: &[u8]) -> bool
+    ensures { λ r. ⌜ (r ≡ rowRight (now (book .entry)) (now (row .entry))) × (now (book .exit) ≡ rowBook (now (book .entry)) (now (row .entry))) ⌝ }
+{
     let word = piece_numbered(row, b'|', 0);
     let command = command_number(word);
     let came = came(
@@ -48,7 +50,9 @@ fn case(book: &mut [u8], row: &[u8]) -> bool {
 }
 
 // Up to the first row that is empty, as every one past the last is.
-pub fn cases(book: &mut [u8], table: &[u8]) -> bool {
+pub fn cases(book: &mut [u8], table: &[u8]) -> bool
+    ensures { λ r. ⌜ (r ≡ (tableRun (now (book .entry)) (now (table .entry))) .0) × (now (book .exit) ≡ (tableRun (now (book .entry)) (now (table .entry))) .1) ⌝ }
+{
     let mut right = true;
     let mut k = 0;
     while k < table.len() {

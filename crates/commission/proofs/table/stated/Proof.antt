@@ -2,11 +2,12 @@
 use Rattle.laws.specs.Kit.{needs, arith}
 use Rattle.laws.specs.Tests.{_and_, _or_, less}
 use Rattle.paper.specs.Listing.{text}
+use Rattle.cases_site.specs.Site.{stated}
 use Rattle.commission.proofs.table.stated.Statement.{statement}
 use Rattle.commission.proofs.table.stated.Tie as tie
 
 returns : tie.Need-returns
-unfolding _and_ _or_ less text
+unfolding stated _and_ _or_ less text
 returns c = cc
 
 pub stated-spec : {M : Type 1} → statement M

@@ -1,0 +1,96 @@
+-- The tables of the check on site, row by row: a word of the desk or `check`, two arguments, the number expected and what is told, with bars between them.
+use Rattle.laws.specs.Base.{List, [], _∷_, _++_}
+use Rattle.paper.specs.Layout.{Bytes}
+use Rattle.paper.specs.Listing.{text}
+
+-- a semicolon behind each
+unfoldable pub rows : List Bytes → Bytes
+rows [] = []
+rows (w ∷ ws) = w ++ 59 ∷ rows ws
+
+-- codes of parties
+unfoldable pub eics : Bytes
+eics =
+    rows
+    (text "eic|10XAT-APG------Z||1|EIC 10XAT-APG------Z"
+    ∷ text "eic|10XAT-APG------Y||0|EIC 10XAT-APG------Y"
+    ∷ text "eic|10YAT-APG------L||1|EIC 10YAT-APG------L"
+    ∷ text "eic|14XAT-APCS-----Q||1|EIC 14XAT-APCS-----Q"
+    ∷ text "eic|14XBG-EMPFANG--0||1|EIC 14XBG-EMPFANG--0"
+    ∷ text "eic|14XBILANZGR-1--F||1|EIC 14XBILANZGR-1--F"
+    ∷ text "eic|13XBILANZGR-2--Q||1|EIC 13XBILANZGR-2--Q"
+    ∷ [])
+
+-- texts that are no quantity
+unfoldable pub quantities : Bytes
+quantities =
+    rows
+    (text "kw|10000||30|number of quantity text \"10000\""
+    ∷ text "kw|.5||30|number of quantity text \".5\""
+    ∷ text "kw|1.||30|number of quantity text \"1.\""
+    ∷ text "kw|||30|number of quantity text \"\""
+    ∷ text "kw|-0||31|number of quantity text \"-0\""
+    ∷ [])
+
+-- a block that is zero but for one byte
+unfoldable pub checks : Bytes
+checks =
+    rows
+    (text "check|505|1|961|check with byte 505 alone 1"
+    ∷ text "check|506|1|31|check with byte 506 alone 1"
+    ∷ text "check|507|1|1|check with byte 507 alone 1"
+    ∷ text "check|507|31|31|check with byte 507 alone 31, which collides"
+    ∷ [])
+
+-- positions before and after they close
+unfoldable pub leads : Bytes
+leads =
+    rows
+    (text "open|45||0|opening"
+    ∷ text "clock|15||0|clock"
+    ∷ text "final|5||25|lead 45, clock 15: final at position 5, still open"
+    ∷ text "clock|16||0|clock"
+    ∷ text "final|5||26|lead 45, clock 16: final at position 5, closed"
+    ∷ text "open|0||0|opening"
+    ∷ text "clock|0||0|clock"
+    ∷ text "final|1||25|lead 0, clock 0: final at position 1, still open"
+    ∷ text "clock|1||0|clock"
+    ∷ text "final|1||26|lead 0, clock 1: final at position 1, closed"
+    ∷ [])
+
+-- versions of the seller's messages
+unfoldable pub versions : Bytes
+versions =
+    rows
+    (text "open|45||0|opening"
+    ∷ text "submit|message BILANZ\nversion 1||0|the seller's first message"
+    ∷ text "submit|message BILANZ\nversion 2||0|message with nothing changed"
+    ∷ text "block|||1|and the series version kept"
+    ∷ text "submit|message BILANZ\nversion 2||6|stored version 2, version 2 again"
+    ∷ text "submit|message BILANZ\nversion 4||6|stored version 2, version 4"
+    ∷ text "submit|message BILANZ\nversion 3||0|stored version 2, version 3"
+    ∷ [])
+
+-- a new series, positions 1 to 4 closed
+unfoldable pub closed : Bytes
+closed =
+    rows
+    (text "open|45||0|opening"
+    ∷ text "submit|message BILANZ\nversion 1||0|the seller's first message"
+    ∷ text "clock|15||0|clock"
+    ∷ text "submit|message BILANZ\nversion 2|series TS0002\narea 10YAT-APG------L\nin 14XBILANZGR-1--F\nout 14XBG-EMPFANG--0\n4 0.005\n|14|new series with 5 kW at a closed position"
+    ∷ text "submit|message BILANZ\nversion 2|series TS0002\narea 10YAT-APG------L\nin 14XBILANZGR-1--F\nout 14XBG-EMPFANG--0\n4 0\n|0|new series with 0 kW there"
+    ∷ [])
+
+-- the listing's example: the buyer files the same as the seller but for 44,000 kW at position 2
+unfoldable pub listed : Bytes
+listed =
+    rows
+    (text "open|45||0|opening"
+    ∷ text "submit|message BILANZ\nversion 1||0|the seller's message"
+    ∷ text "message|message EMPFANG\nversion 1\nsender 14XBG-EMPFANG--0\nreceiver 14XAT-APCS-----Q\nday 20190131\nn 96\nseries FPL01\narea 10YAT-APG------L\nin 14XBG-EMPFANG--0\nout 14XBILANZGR-1--F\n1-96 45\n2 44\n||0|the buyer's message"
+    ∷ [])
+
+-- the listing then
+unfoldable pub page : Bytes
+page = text "slot sender series in out state first partner\n2 14XBILANZGR-1--F TS0001 14XBG-EMPFANG--0 14XBILANZGR-1--F 3 2 4\n4 14XBG-EMPFANG--0 FPL01 14XBG-EMPFANG--0 14XBILANZGR-1--F 3 2 2\n"

@@ -1,0 +1,19 @@
+-- The lead is read as the definition reads it; day, area and receiver are the definition's.
+use Rattle.laws.specs.Kit.{needs, sym, ap, _∙_}
+use Rattle.desk_text.specs.declared.NumberRead.{NumberRead}
+use Rattle.paper.specs.Listing.{text}
+use Rattle.desk_text.specs.Arguments.{wordValue}
+use Rattle.cases.specs.Examples.{area, receiver, day, parameters}
+use Rattle.cases_site.specs.Site.{opening}
+use Rattle.commission.proofs.book.opened.Statement.{statement}
+use Rattle.commission.proofs.book.opened.Tie as tie
+
+returns : tie.Need-returns
+unfolding opening parameters area receiver day text
+returns c =
+    let o = c .before .before in
+    let v = o .before .before .before .before in
+    rw (sym (v .word-value .ensures ∙ ap (λ (q : NumberRead). wordValue (q .value)) (v .before .number-read .ensures))) (o .«open» .ensures)
+
+pub opened-spec : {M : Type 1} → statement M
+opened-spec = tie.close (tie.spec (search needs) (search needs) (search needs) (search needs) (search needs) (search needs) (search needs) returns)

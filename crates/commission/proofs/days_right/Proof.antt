@@ -1,0 +1,19 @@
+-- Each day's table holds.
+use Rattle.laws.specs.Kit.{needs, _≡_}
+use Rattle.commission.proofs.Laws.{both-true}
+use Rattle.commission.proofs.days_right.Statement.{statement}
+use Rattle.commission.proofs.days_right.Tie as tie
+
+returns : tie.Need-returns
+returns c =
+    let last = c .before in
+    let listed = last .before in
+    let first = listed .before in
+    let closed = first .before in
+    let versions = closed .before in
+    both-true (c .both3 .ensures)
+    (both-true (first .both .ensures) (versions .before .leads-right .ensures) (versions .versions-right .ensures))
+    (both-true (last .both2 .ensures) (closed .closed-right .ensures) (listed .listed-right .ensures))
+
+pub days-right-spec : {M : Type 1} → statement M
+days-right-spec = tie.close (tie.spec (search needs) (search needs) (search needs) (search needs) (search needs) (search needs) (search needs) returns)

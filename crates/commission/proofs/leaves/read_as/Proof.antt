@@ -1,0 +1,22 @@
+-- Both verdicts are on what the text is read as.
+use Rattle.laws.specs.Kit.{needs, ap, _∙_}
+use Rattle.laws.specs.Base.{ap₂}
+use Rattle.laws.specs.Tests.{_and_, is}
+use Rattle.paper.specs.declared.QuantityRead.{QuantityRead}
+use Rattle.cases_site.specs.Site.{readsAs}
+use Rattle.commission.proofs.leaves.read_as.Statement.{statement}
+use Rattle.commission.proofs.leaves.read_as.Tie as tie
+
+returns : tie.Need-returns
+unfolding readsAs
+returns c =
+    let kilowatts = c .before in
+    let number = kilowatts .before .before .before in
+    let e = number .before .before .before .quantity-read .ensures in
+    c .both .ensures
+    ∙ ap₂ _and_
+    (number .number .ensures ∙ ap (λ (q : QuantityRead). is 0 (q .number)) e)
+    (kilowatts .number2 .ensures ∙ ap (is _) (ap (λ (q : QuantityRead). q .kilowatts) e))
+
+pub read-as-spec : {M : Type 1} → statement M
+read-as-spec = tie.close (tie.spec (search needs) (search needs) (search needs) (search needs) (search needs) (search needs) (search needs) (search needs) returns)

@@ -1,0 +1,51 @@
+-- Each arm calls what the definition names for its command.
+use Rattle.laws.specs.Kit.{needs, refl, ap, _∙_}
+use Rattle.laws.specs.Tests.{is}
+use Rattle.laws.specs.Tests.Laws.{is-other}
+use Rattle.paper.specs.declared.QuantityRead.{QuantityRead}
+use Rattle.cases.specs.Case.{flag}
+use Rattle.commission.proofs.Laws.{as-number}
+use Rattle.cases_site.specs.Site.{came, bookAfter}
+use Rattle.commission.proofs.table.came.Statement.{statement}
+use Rattle.commission.proofs.table.came.Tie as tie
+
+returns : tie.Need-returns
+unfolding came bookAfter is
+returns c = let o = c .before .before in rw (o .before .before .match .keys1) (o .opened .ensures)
+
+returns-2 : tie.Need-returns-2
+unfolding came bookAfter is
+returns-2 c = let o = c .before .before in rw (o .before .before .match .keys2) (o .clock .ensures)
+
+returns-3 : tie.Need-returns-3
+unfolding came bookAfter is
+returns-3 c = let o = c .before .before in rw (o .before .before .match .keys3) (o .sold .ensures)
+
+returns-6 : tie.Need-returns-6
+unfolding came bookAfter is
+returns-6 c = let o = c .before .before in rw (o .before .before .match .keys6) (o .submitted .ensures)
+
+returns-4 : tie.Need-returns-4
+unfolding came bookAfter is
+returns-4 c = rw (c .before .before .match .keys4) (c .kept-version .ensures, refl)
+
+returns-5 : tie.Need-returns-5
+unfolding came bookAfter is
+returns-5 c = rw (c .before .before .match .keys5) (c .final-number .ensures, refl)
+
+returns-7 : tie.Need-returns-7
+unfolding came bookAfter is
+returns-7 c = rw (c .before .match .keys7) (as-number (c .eic-valid .result) ∙ ap flag (c .eic-valid .ensures), refl)
+
+returns-8 : tie.Need-returns-8
+unfolding came bookAfter is
+returns-8 c = rw (c .before .match .keys8) (ap (λ (q : QuantityRead). q .number) (c .quantity-read .ensures), refl)
+
+returns-9 : tie.Need-returns-9
+unfolding came bookAfter
+returns-9 c =
+    let n = c .before .match .rest in
+    rw (is-other _ 1 (n .0 .0 .0 .0 .0 .0 .0 .1), is-other _ 2 (n .0 .0 .0 .0 .0 .0 .1), is-other _ 3 (n .0 .0 .0 .0 .0 .1), is-other _ 5 (n .0 .0 .0 .0 .1), is-other _ 6 (n .0 .0 .0 .1), is-other _ 9 (n .0 .0 .1), is-other _ 10 (n .0 .1), is-other _ 11 (n .1)) (c .check .ensures, refl)
+
+pub came-spec : {M : Type 1} → statement M
+came-spec = tie.close (tie.spec (search needs) (search needs) (search needs) (search needs) (search needs) (search needs) (search needs) (search needs) (search needs) (search needs) (search needs) returns (search needs) returns-2 (search needs) returns-3 (search needs) returns-4 (search needs) returns-5 (search needs) returns-6 returns-7 returns-8 returns-9)
