@@ -1,5 +1,5 @@
 -- Every part holds.
-use Rattle.laws.specs.Kit.{needs, _≡_}
+use Rattle.laws.specs.Kit.{needs, refl}
 use Rattle.commission.proofs.Laws.{both-true}
 use Rattle.commission.proofs.all_right.Statement.{statement}
 use Rattle.commission.proofs.all_right.Tie as tie
@@ -14,4 +14,4 @@ returns c =
     (days .days-right .ensures)
 
 pub all-right-spec : {M : Type 1} → statement M
-all-right-spec = tie.close (tie.spec (search needs) (search needs) (search needs) (search needs) (search needs) (search needs) (search needs) returns)
+all-right-spec = tie.close (tie.spec (λ c. refl) (λ c κs. tt) (search needs) (λ c κs. tt) (λ c κs. tt) (λ c κs. tt) (λ c κs. tt) returns)

@@ -1,5 +1,5 @@
 -- The table is the definition's, and each of its rows holds.
-use Rattle.laws.specs.Kit.{needs, ap, _∙_}
+use Rattle.laws.specs.Kit.{needs, ap, _∙_, refl}
 use Rattle.paper.specs.Listing.{text}
 use Rattle.cases_site.specs.Tables.{rows, checks}
 use Rattle.cases_site.specs.Proved.{checks-right}
@@ -11,4 +11,4 @@ unfolding checks rows text
 returns c = c .before .before .cases .ensures .0 ∙ ap (λ p. p .0) (checks-right _)
 
 pub checks-right-spec : {M : Type 1} → statement M
-checks-right-spec = tie.close (tie.spec (search needs) (search needs) (search needs) returns)
+checks-right-spec = tie.close (tie.spec (λ c. refl) (λ c κs. tt) (search needs) returns)

@@ -1,5 +1,4 @@
 -- Each day's table holds.
-use Rattle.laws.specs.Kit.{needs, _≡_}
 use Rattle.commission.proofs.Laws.{both-true}
 use Rattle.commission.proofs.days_right.Statement.{statement}
 use Rattle.commission.proofs.days_right.Tie as tie
@@ -16,4 +15,4 @@ returns c =
     (both-true (last .both2 .ensures) (closed .closed-right .ensures) (listed .listed-right .ensures))
 
 pub days-right-spec : {M : Type 1} → statement M
-days-right-spec = tie.close (tie.spec (search needs) (search needs) (search needs) (search needs) (search needs) (search needs) (search needs) returns)
+days-right-spec = tie.close (tie.spec (λ c κs. tt) (λ c κs. tt) (λ c κs. tt) (λ c κs. tt) (λ c κs. tt) (λ c κs. tt) (λ c κs. tt) returns)

@@ -1,5 +1,5 @@
 -- The tables are the definition's, and each of their rows holds, whatever the book.
-use Rattle.laws.specs.Kit.{needs, ap, _∙_}
+use Rattle.laws.specs.Kit.{needs, ap, _∙_, refl}
 use Rattle.paper.specs.Listing.{text}
 use Rattle.cases_site.specs.Tables.{rows, eics, quantities}
 use Rattle.cases_site.specs.Proved.{eics-right, quantities-right}
@@ -21,4 +21,4 @@ returns c =
     (both-true (last .both2 .ensures) (wrong .cases2 .ensures .0 ∙ ap (λ p. p .0) (quantities-right _)) (printed .printed .ensures))
 
 pub leaves-right-spec : {M : Type 1} → statement M
-leaves-right-spec = tie.close (tie.spec (search needs) (search needs) (search needs) (search needs) (search needs) (search needs) (search needs) (search needs) (search needs) (search needs) returns)
+leaves-right-spec = tie.close (tie.spec (λ c. refl) (λ c κs. tt) (λ c κs. tt) (λ c. refl) (λ c κs. tt) (λ c κs. tt) (λ c κs. tt) (λ c κs. tt) (λ c κs. tt) (search needs) returns)

@@ -1,5 +1,5 @@
 -- The table and the page are the definition's, and hold.
-use Rattle.laws.specs.Kit.{needs, ap, _∙_}
+use Rattle.laws.specs.Kit.{needs, ap, _∙_, refl}
 use Rattle.laws.specs.Base.{ap₂}
 use Rattle.laws.specs.Tests.{_and_}
 use Rattle.laws.specs.Lists.{same}
@@ -18,4 +18,4 @@ returns c =
     c .both .ensures ∙ ap₂ _and_ (rows .0) (l .listed .ensures ∙ ap (λ b. same page (shown b)) (rows .1)) ∙ listed-right
 
 pub listed-right-spec : {M : Type 1} → statement M
-listed-right-spec = tie.close (tie.spec (search needs) (search needs) (search needs) (search needs) (search needs) (search needs) returns)
+listed-right-spec = tie.close (tie.spec (λ c. refl) (λ c. refl) (λ c κs. tt) (search needs) (λ c κs. tt) (λ c κs. tt) returns)

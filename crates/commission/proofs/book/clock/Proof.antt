@@ -13,4 +13,4 @@ returns c =
     rw (sym (ap (λ (q : MinuteRead). q .minute .0) (k .before .minute-read .ensures))) (ap (λ (a : ClockAnswer). a .number) (k .clock .ensures .0), k .clock .ensures .1)
 
 pub clock-spec : {M : Type 1} → statement M
-clock-spec = tie.close (tie.spec (search needs) (search needs) (search needs) returns)
+clock-spec = tie.close (tie.spec (λ c κs. tt) (λ c κs. tt) (search needs) returns)

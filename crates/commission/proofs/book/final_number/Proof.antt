@@ -1,5 +1,5 @@
 -- The position is read as the definition reads it; the parties are the definition's.
-use Rattle.laws.specs.Kit.{needs, sym, ap}
+use Rattle.laws.specs.Kit.{needs, sym, ap, refl}
 use Rattle.desk_text.specs.declared.NumberRead.{NumberRead}
 use Rattle.paper.specs.declared.FinalAnswer.{FinalAnswer}
 use Rattle.paper.specs.Listing.{text}
@@ -13,4 +13,4 @@ returns c =
     rw (sym (ap (λ (q : NumberRead). q .value) (c .before .before .number-read .ensures))) (ap (λ (a : FinalAnswer). a .number) (c .final-value .ensures))
 
 pub final-number-spec : {M : Type 1} → statement M
-final-number-spec = tie.close (tie.spec (search needs) (search needs) (search needs) (search needs) (search needs) returns)
+final-number-spec = tie.close (tie.spec (λ c. refl) (λ c. refl) (λ c κs. tt) (search needs) (λ c κs. tt) returns)

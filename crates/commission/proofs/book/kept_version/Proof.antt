@@ -1,5 +1,5 @@
 -- The version is read from the accepted block.
-use Rattle.laws.specs.Kit.{needs, ap, _∙_}
+use Rattle.laws.specs.Kit.{needs, ap, _∙_, refl}
 use Rattle.paper.specs.Layout.{version}
 use Rattle.paper.specs.Listing.{text}
 use Rattle.cases.specs.Examples.{seller, id}
@@ -11,4 +11,4 @@ unfolding seller id text
 returns c = c .version .ensures ∙ ap version (c .before .accepted-block .ensures)
 
 pub kept-version-spec : {M : Type 1} → statement M
-kept-version-spec = tie.close (tie.spec (search needs) (search needs) (search needs) (search needs) (search needs) returns)
+kept-version-spec = tie.close (tie.spec (λ c. refl) (λ c. refl) (λ c κs. tt) (λ c κs. tt) (search needs) returns)

@@ -1,5 +1,5 @@
 -- What is shown is the listing, as far as the room holds it.
-use Rattle.laws.specs.Kit.{needs, ap, _∙_}
+use Rattle.laws.specs.Kit.{needs, ap, _∙_, refl}
 use Rattle.laws.specs.Base.{ap₂}
 use Rattle.laws.specs.Lists.{same}
 use Rattle.laws.specs.Bytes.{part}
@@ -17,4 +17,4 @@ returns c =
     c .page .ensures ∙ ap (same page) (p .part-of .ensures ∙ ap₂ (part 0) (l .0) (l .1))
 
 pub listed-spec : {M : Type 1} → statement M
-listed-spec = tie.close (tie.spec (search needs) (search needs) (search needs) (search needs) (search needs) (search needs) (search needs) returns)
+listed-spec = tie.close (tie.spec (λ c. refl) (λ c κs. tt) (λ c. refl) (λ c. refl) (search needs) (λ c κs. tt) (λ c κs. tt) returns)

@@ -1,5 +1,5 @@
 -- The lead is read as the definition reads it; day, area and receiver are the definition's.
-use Rattle.laws.specs.Kit.{needs, sym, ap, _∙_}
+use Rattle.laws.specs.Kit.{needs, sym, ap, _∙_, refl}
 use Rattle.desk_text.specs.declared.NumberRead.{NumberRead}
 use Rattle.paper.specs.Listing.{text}
 use Rattle.desk_text.specs.Arguments.{wordValue}
@@ -16,4 +16,4 @@ returns c =
     rw (sym (v .word-value .ensures ∙ ap (λ (q : NumberRead). wordValue (q .value)) (v .before .number-read .ensures))) (o .«open» .ensures)
 
 pub opened-spec : {M : Type 1} → statement M
-opened-spec = tie.close (tie.spec (search needs) (search needs) (search needs) (search needs) (search needs) (search needs) (search needs) returns)
+opened-spec = tie.close (tie.spec (λ c κs. tt) (λ c κs. tt) (λ c. refl) (λ c. refl) (λ c. refl) (λ c κs. tt) (search needs) returns)

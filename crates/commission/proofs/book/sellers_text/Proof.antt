@@ -1,5 +1,5 @@
 -- Head, lines and the rest stand one behind the other.
-use Rattle.laws.specs.Kit.{needs, _≡_}
+use Rattle.laws.specs.Kit.{needs, refl}
 use Rattle.paper.specs.Listing.{text}
 use Rattle.desk_text.specs.Put.Laws.{then}
 use Rattle.cases_site.specs.Site.{sellersLines}
@@ -15,4 +15,4 @@ returns c =
     then (then (first .put .ensures) (second .put2 .ensures)) (last .put3 .ensures)
 
 pub sellers-text-spec : {M : Type 1} → statement M
-sellers-text-spec = tie.close (tie.spec (search needs) (search needs) (search needs) (search needs) (search needs) returns)
+sellers-text-spec = tie.close (tie.spec (λ c κs. tt) (λ c. refl) (λ c κs. tt) (λ c κs. tt) (search needs) returns)

@@ -1,5 +1,5 @@
 -- The text that is put together is the definition's.
-use Rattle.laws.specs.Kit.{needs, sym, ap, _∙_}
+use Rattle.laws.specs.Kit.{needs, sym, ap, _∙_, refl}
 use Rattle.laws.specs.Base.{ap₂, zero-add}
 use Rattle.laws.specs.Bytes.{part}
 use Rattle.desk_text.specs.Put.{within}
@@ -16,4 +16,4 @@ returns c =
     rw (sym (p .part-of .ensures ∙ ap₂ (part 0) (t .size ∙ ap (λ k. within k 512) (zero-add _)) (t .text))) (s .submitted .ensures)
 
 pub sold-spec : {M : Type 1} → statement M
-sold-spec = tie.close (tie.spec (search needs) (search needs) (search needs) (search needs) (search needs) (search needs) returns)
+sold-spec = tie.close (tie.spec (λ c. refl) (λ c κs. tt) (search needs) (λ c κs. tt) (λ c κs. tt) (search needs) returns)

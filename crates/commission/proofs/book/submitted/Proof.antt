@@ -1,5 +1,5 @@
 -- What is laid at the front of the room is the message that the text says.
-use Rattle.laws.specs.Kit.{needs, sym, ap, _∙_}
+use Rattle.laws.specs.Kit.{needs, sym, ap, _∙_, refl}
 use Rattle.laws.specs.Base.{ap₂, List, ℕ}
 use Rattle.laws.specs.Bytes.{part}
 use Rattle.paper.specs.declared.Verdict.{Verdict}
@@ -17,4 +17,4 @@ returns c =
     rw (sym (p .part-of .ensures ∙ ap₂ (λ (q : TextRead) (x : List ℕ). part 0 (q .length) x) (m .0) (m .1))) (ap (λ (v : Verdict). v .number) (s .submit .ensures .0), s .submit .ensures .1)
 
 pub submitted-spec : {M : Type 1} → statement M
-submitted-spec = tie.close (tie.spec (search needs) (search needs) (search needs) (search needs) (search needs) (search needs) returns)
+submitted-spec = tie.close (tie.spec (λ c. refl) (λ c κs. tt) (search needs) (λ c κs. tt) (λ c κs. tt) (search needs) returns)

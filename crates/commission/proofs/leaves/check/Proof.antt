@@ -1,5 +1,5 @@
 -- The block has the one byte that the definition puts there.
-use Rattle.laws.specs.Kit.{needs, ap, _∙_}
+use Rattle.laws.specs.Kit.{needs, ap, _∙_, refl}
 use Rattle.laws.specs.Base.{ap₂, [], _∷_, ℕ, replicate}
 use Rattle.laws.specs.Bytes.{written}
 use Rattle.paper.specs.Check.{checkOf}
@@ -24,4 +24,4 @@ returns c =
     (v .byte-value .ensures ∙ ap (λ (q : NumberRead). byteValue (q .value)) (byte .number-read2 .ensures)))
 
 pub check-spec : {M : Type 1} → statement M
-check-spec = tie.close (tie.spec (search needs) (search needs) (search needs) (search needs) (search needs) (search needs) (search needs) (search needs) returns)
+check-spec = tie.close (tie.spec (λ c. refl) (λ c κs. tt) (search needs) (λ c κs. tt) (λ c κs. tt) (λ c κs. tt) (search needs) (λ c κs. tt) returns)

@@ -1,5 +1,5 @@
 -- The text that is printed is the one expected, by the definition.
-use Rattle.laws.specs.Kit.{needs, ap, _∙_}
+use Rattle.laws.specs.Kit.{needs, ap, _∙_, refl}
 use Rattle.laws.specs.Base.{ap₂, List, ℕ}
 use Rattle.laws.specs.Lists.{same}
 use Rattle.laws.specs.Bytes.{part}
@@ -19,4 +19,4 @@ returns c =
     ∙ printed-right
 
 pub printed-spec : {M : Type 1} → statement M
-printed-spec = tie.close (tie.spec (search needs) (search needs) (search needs) (search needs) (search needs) (search needs) (search needs) returns)
+printed-spec = tie.close (tie.spec (λ c. refl) (λ c κs. tt) (λ c. refl) (λ c. refl) (search needs) (λ c κs. tt) (λ c κs. tt) returns)

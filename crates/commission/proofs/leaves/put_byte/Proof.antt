@@ -1,5 +1,5 @@
 -- A byte past the end is put nowhere, in the definition too.
-use Rattle.laws.specs.Kit.{needs, refl, sym}
+use Rattle.laws.specs.Kit.{needs, sym, refl}
 use Rattle.laws.specs.Base.{set-out}
 use Rattle.laws.specs.Bytes.{written}
 use Rattle.commission.proofs.leaves.put_byte.Statement.{statement}

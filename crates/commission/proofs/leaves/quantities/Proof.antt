@@ -1,5 +1,5 @@
 -- Each text is read as it should be, by the definition.
-use Rattle.laws.specs.Kit.{needs, _∙_}
+use Rattle.laws.specs.Kit.{_∙_, refl}
 use Rattle.paper.specs.Listing.{text}
 use Rattle.cases_site.specs.Proved.{a-reads, b-reads, c-reads}
 use Rattle.commission.proofs.Laws.{both-true}
@@ -18,4 +18,4 @@ returns c =
     (third .read-as3 .ensures ∙ c-reads)
 
 pub quantities-spec : {M : Type 1} → statement M
-quantities-spec = tie.close (tie.spec (search needs) (search needs) (search needs) (search needs) (search needs) (search needs) (search needs) (search needs) returns)
+quantities-spec = tie.close (tie.spec (λ c. refl) (λ c κs. tt) (λ c. refl) (λ c κs. tt) (λ c κs. tt) (λ c. refl) (λ c κs. tt) (λ c κs. tt) returns)

@@ -22,4 +22,4 @@ returns c =
     (c .both .ensures ∙ ap₂ _and_ (num .number .ensures ∙ ap (is _) (call .came .ensures .0)) (st .stated .ensures), call .came .ensures .1)
 
 pub case-spec : {M : Type 1} → statement M
-case-spec = tie.close (tie.spec (search needs) (search needs) (search needs) (search needs) (search needs) (search needs) (search needs) (search needs) (search needs) (search needs) (search needs) (search needs) returns)
+case-spec = tie.close (tie.spec (λ c κs. tt) (λ c κs. tt) (λ c κs. tt) (λ c κs. tt) (λ c κs. tt) (λ c κs. tt) (λ c κs. tt) (λ c κs. tt) (λ c κs. tt) (λ c κs. tt) (λ c κs. tt) (search needs) returns)

@@ -1,5 +1,5 @@
 -- The rows still to come, with what is joined so far, give what all rows give; no case changes the book's length.
-use Rattle.laws.specs.Kit.{needs, arith, _≡_, refl, ap, sym, _∙_, _-_, length}
+use Rattle.laws.specs.Kit.{needs, arith, ap, sym, _∙_, _-_, length, refl, _≡_}
 use Rattle.desk_text.specs.Words.{pastPieces}
 use Rattle.cases_site.specs.Site.{rowsFrom, tableRun}
 use Rattle.commission.proofs.Laws.{rows-all, rows-turn, rows-end, rows-none}
@@ -40,4 +40,4 @@ returns-2 c =
     (ap (λ p. p .0) e, ap (λ p. p .1) e)
 
 pub cases-spec : {M : Type 1} → statement M
-cases-spec = tie.close (tie.spec Inv-loop μ-loop loop-holds (search needs) (search needs) returns (search needs) (search needs) (λ c. omega arith) (λ c. omega arith) loop-again (search needs) returns-2)
+cases-spec = tie.close (tie.spec Inv-loop μ-loop loop-holds (λ c κs. tt) (search needs) returns (λ c κs. tt) (λ c κs. tt) (λ c. omega arith) (λ c. omega arith) loop-again (search needs) returns-2)
