@@ -1,4 +1,10 @@
 // The calls that may change the book: open, clock, submit.
+ghost use mathlib.Core.Path.{_≡_};
+ghost use Rattle.paper.specs.Rules.{verdict};
+ghost use Rattle.paper.specs.Acceptance.{submitted};
+ghost use Rattle.paper.specs.Clock.{clockAnswer, clockMoved};
+ghost use Rattle.stream.specs.Told.{numbersOf};
+ghost use Rattle.replay_answers.specs.Answers.{clockTold, verdictTold, openNumbers, openAfter, dayNumbers, dayAfter};
 use block::numbers::byte_or_zero;
 use block::numbers::number_2;
 use paper::Minute;
@@ -10,7 +16,9 @@ use stream::told::nothing;
 use stream::told::one;
 
 // One byte of n, two of lead, then the names of day, area and receiver.
-fn open(book: &mut [u8], body: &[u8]) -> Told {
+fn open(book: &mut [u8], body: &[u8]) -> Told
+    ensures { λ r. ⌜ (numbersOf r ≡ openNumbers (now (book .entry)) (now (body .entry))) × (now (book .exit) ≡ openAfter (now (book .entry)) (now (body .entry))) ⌝ }
+{
     let area = name_end(body, 3);
     let receiver = name_end(body, area);
     if name_end(body, receiver) != body.len() {
@@ -29,7 +37,9 @@ fn open(book: &mut [u8], body: &[u8]) -> Told {
     one(number as usize)
 }
 
-fn clock(book: &mut [u8], minute: Minute) -> Told {
+fn clock(book: &mut [u8], minute: Minute) -> Told
+    ensures { λ r. ⌜ (numbersOf r ≡ clockTold (clockAnswer (now (book .entry)) (minute .0))) × (now (book .exit) ≡ clockMoved (now (book .entry)) (minute .0)) ⌝ }
+{
     let answer = clock::clock(book, minute);
     let s = answer.state;
     four(
@@ -40,12 +50,16 @@ fn clock(book: &mut [u8], minute: Minute) -> Told {
     )
 }
 
-fn submit(book: &mut [u8], message: &[u8]) -> Told {
+fn submit(book: &mut [u8], message: &[u8]) -> Told
+    ensures { λ r. ⌜ (numbersOf r ≡ verdictTold (verdict (now (book .entry)) (now (message .entry)))) × (now (book .exit) ≡ submitted (now (book .entry)) (now (message .entry))) ⌝ }
+{
     let v = submit::submit(book, message);
     four(v.number as usize, v.code as usize, v.series, v.position.0)
 }
 
-pub fn numbers(tag: u8, book: &mut [u8], body: &[u8]) -> Told {
+pub fn numbers(tag: u8, book: &mut [u8], body: &[u8]) -> Told
+    ensures { λ r. ⌜ (numbersOf r ≡ dayNumbers tag (now (book .entry)) (now (body .entry))) × (now (book .exit) ≡ dayAfter tag (now (book .entry)) (now (body .entry))) ⌝ }
+{
     match tag {
         5 => open(book, body),
         6 => clock(book, Minute(number_2(body, 0))),

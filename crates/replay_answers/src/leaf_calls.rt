@@ -1,4 +1,8 @@
 // The calls that need neither a book nor a message.
+ghost use mathlib.Core.Path.{_≡_};
+ghost use Rattle.paper.specs.QuantityText.{quantityRead};
+ghost use Rattle.stream.specs.Told.{numbersOf};
+ghost use Rattle.replay_answers.specs.Answers.{readTold, leafNumbers};
 use block::check::check_of;
 use block::check::check_right;
 use block::numbers::byte_or_zero;
@@ -11,12 +15,16 @@ use stream::told::flag;
 use stream::told::one;
 use stream::told::two;
 
-fn read(text: &[u8]) -> Told {
+fn read(text: &[u8]) -> Told
+    ensures { λ r. ⌜ numbersOf r ≡ readTold (quantityRead (now (text .entry))) ⌝ }
+{
     let r = quantity_read(text);
     two(r.number as usize, r.kilowatts as usize)
 }
 
-pub fn numbers(tag: u8, body: &[u8]) -> Told {
+pub fn numbers(tag: u8, body: &[u8]) -> Told
+    ensures { λ r. ⌜ numbersOf r ≡ leafNumbers tag (now (body .entry)) ⌝ }
+{
     match tag {
         16 => one(flag(eic_valid(body))),
         17 => one(flag(id_well_formed(body))),

@@ -6,11 +6,17 @@ pub mod message_calls;
 pub mod reading_calls;
 pub mod shown;
 
+ghost use mathlib.Core.Path.{_≡_};
+ghost use Rattle.stream.specs.Told.{numbersOf};
+ghost use Rattle.desk_text.specs.Put.{Put};
+ghost use Rattle.replay_answers.specs.Answers.{numbersTold, lineOf, bookAfter};
 use stream::line;
 use stream::told::Told;
 
 // The numbers that a call tells, of the calls that show no bytes.
-fn numbers(tag: u8, book: &mut [u8], body: &[u8]) -> Told {
+fn numbers(tag: u8, book: &mut [u8], body: &[u8]) -> Told
+    ensures { λ r. ⌜ (numbersOf r ≡ numbersTold tag (now (book .entry)) (now (body .entry))) × (now (book .exit) ≡ bookAfter tag (now (book .entry)) (now (body .entry))) ⌝ }
+{
     if tag < 8 {
         return day_calls::numbers(tag, book, body);
     }
@@ -21,7 +27,9 @@ fn numbers(tag: u8, book: &mut [u8], body: &[u8]) -> Told {
 }
 
 // How many bytes of the buffer the line has; 0, which no line has, where the record is malformed.
-pub fn answer(tag: u8, book: &mut [u8], body: &mut [u8], line: &mut [u8]) -> usize {
+pub fn answer(tag: u8, book: &mut [u8], body: &mut [u8], line: &mut [u8]) -> usize
+    ensures { λ r. ⌜ Put 0 (lineOf tag (now (book .entry)) (now (body .entry))) r (now (line .entry)) (now (line .exit)) × (now (book .exit) ≡ bookAfter tag (now (book .entry)) (now (body .entry))) ⌝ }
+{
     match tag {
         9 => shown::accepted_block(book, body, line),
         12 => shown::reader(body, line),

@@ -1,4 +1,8 @@
 // The calls that read the book, and the walk over a message.
+ghost use mathlib.Core.Path.{_≡_};
+ghost use Rattle.paper.specs.PlainRun.{plainRun};
+ghost use Rattle.stream.specs.Told.{numbersOf};
+ghost use Rattle.replay_answers.specs.Answers.{markNumbers, finalNumbers, plainTold, readingNumbers};
 use crate::message_calls::walk_told;
 use block::numbers::number_2;
 use paper::Position;
@@ -13,7 +17,9 @@ use stream::told::one;
 use stream::told::two;
 
 // The names of the sender and of the series id.
-fn mark(book: &[u8], body: &[u8]) -> Told {
+fn mark(book: &[u8], body: &[u8]) -> Told
+    ensures { λ r. ⌜ numbersOf r ≡ markNumbers (now (book .entry)) (now (body .entry)) ⌝ }
+{
     let id = name_end(body, 0);
     if name_end(body, id) != body.len() {
         return nothing();
@@ -23,7 +29,9 @@ fn mark(book: &[u8], body: &[u8]) -> Told {
 }
 
 // The names of the out party and of the in party, then two bytes of position.
-fn final_value(book: &[u8], body: &[u8]) -> Told {
+fn final_value(book: &[u8], body: &[u8]) -> Told
+    ensures { λ r. ⌜ numbersOf r ≡ finalNumbers (now (book .entry)) (now (body .entry)) ⌝ }
+{
     let in_party = name_end(body, 0);
     let at = name_end(body, in_party);
     if rest_from(body, at).len() != 2 {
@@ -34,12 +42,16 @@ fn final_value(book: &[u8], body: &[u8]) -> Told {
     two(f.number as usize, f.kilowatts as usize)
 }
 
-fn plain_run(book: &[u8]) -> Told {
+fn plain_run(book: &[u8]) -> Told
+    ensures { λ r. ⌜ numbersOf r ≡ plainTold (plainRun (now (book .entry))) ⌝ }
+{
     let p = plain_run::plain_run(book);
     two(p.number as usize, flag(p.holds))
 }
 
-pub fn numbers(tag: u8, book: &[u8], body: &[u8]) -> Told {
+pub fn numbers(tag: u8, book: &[u8], body: &[u8]) -> Told
+    ensures { λ r. ⌜ numbersOf r ≡ readingNumbers tag (now (book .entry)) (now (body .entry)) ⌝ }
+{
     match tag {
         8 => mark(book, body),
         10 => final_value(book, body),

@@ -9,8 +9,6 @@ use Rattle.paper.specs.Layout.{Bytes}
 use Rattle.paper.specs.Listing.{text}
 use Rattle.desk_text.specs.Words.{lines, lineNumbered}
 use Rattle.desk_text.specs.Numbers.{numberText}
-use Rattle.stream.specs.declared.told.Told.{Told}
-use Rattle.stream.specs.Told.{numbersOf}
 
 -- a piece of text for each number, one behind the other
 unfoldable pub pieces : (ℕ → Bytes) → List ℕ → Bytes
@@ -80,5 +78,5 @@ unfoldable pub wordOf : ℕ → Bytes
 wordOf tag = lineNumbered tag words
 
 -- no bytes are shown, and no line where nothing is told
-unfoldable pub toldLine : ℕ → Told → Bytes
-toldLine tag told = cond (is (told .count) 0) [] (answerLine (wordOf tag) (numbersOf told) [])
+unfoldable pub toldLine : (tag : ℕ) (numbers : List ℕ) → Bytes
+toldLine tag numbers = cond (is (length numbers) 0) [] (answerLine (wordOf tag) numbers [])

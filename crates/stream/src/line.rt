@@ -100,9 +100,10 @@ pub fn answer_with(line: &mut [u8], tag: u8, told: Told, bytes: &[u8]) -> usize
 
 // Most answers show no bytes. Nothing is put where nothing is told.
 pub fn answer(line: &mut [u8], tag: u8, told: Told) -> usize
-    ensures { λ r. ⌜ Put 0 (toldLine tag told) r (now (line .entry)) (now (line .exit)) ⌝ }
+    ensures { λ r. ⌜ Put 0 (toldLine tag (numbersOf told)) r (now (line .entry)) (now (line .exit)) ⌝ }
 {
-    if told.count == 0 {
+    let numbers = told.numbers;
+    if first_numbers(&numbers, told.count).len() == 0 {
         return 0;
     }
     answer_with(line, tag, told, b"")

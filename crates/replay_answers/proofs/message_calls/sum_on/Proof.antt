@@ -1,15 +1,53 @@
--- Each turn leaves one byte fewer.
-use Prim.Native.Nat.{_-_}
-use lib.ListN.{length}
+-- The sum so far and the bytes that are left still give the whole sum.
+use Rattle.laws.specs.Kit.{arith, _≡_, sym, _∙_, _≤_, _-_, length, drop}
+use denote.Ref.{now}
+use Rattle.paper.specs.Check.{checkFrom}
+use Rattle.facts.specs.Check.{check-from-more, check-from-end}
 use borrow.Author.Needs.{needs}
+use native.Mathlib.Omega.{arith}
 use Rattle.replay_answers.proofs.message_calls.sum_on.Statement.{statement}
 use Rattle.replay_answers.proofs.message_calls.sum_on.Tie as tie
 
-abbrev Inv : tie.InvT-loop
-Inv sum series s₀ i₀ s i = Unit {0}
+abbrev Inv-loop : tie.InvT-loop
+Inv-loop sum series s₀ i₀ s i = (i ≤ length series) × (checkFrom s (drop i series) ≡ checkFrom sum series)
 
-abbrev μ : tie.MeasureT-loop
-μ sum series s₀ i₀ s i = length series - i
+abbrev μ-loop : tie.MeasureT-loop
+μ-loop sum series s₀ i₀ s i = length series - i
+
+loop-holds : tie.Need-loop-holds Inv-loop μ-loop
+loop-holds c = search needs
+
+shared-slice-read-check-step : tie.Need-shared-slice-read-check-step Inv-loop μ-loop
+shared-slice-read-check-step c = search needs
+
+check-step-requires : tie.Need-check-step-requires Inv-loop μ-loop
+check-step-requires c κs = search needs
+
+add-i : tie.Need-add-i Inv-loop μ-loop
+add-i c = search needs
+
+loop-less : tie.Need-loop-less Inv-loop μ-loop
+loop-less c = search needs
+
+loop-again : tie.Need-loop-again Inv-loop μ-loop
+loop-again c = let l = c .before .before .before in
+    let r = now (l .before .before .args .series) in
+    (search needs, rw (c .check-step .ensures) (sym (check-from-more (l .loop .s) (l .loop .i) r (c .before .before .loop-test .taken)) ∙ l .loop .inv .1))
+
+returns : tie.Need-returns Inv-loop μ-loop
+returns c = let l = c .before in
+    sym (check-from-end (l .loop .s) (l .loop .i) (now (l .before .before .args .series)) (c .loop-test .left)) ∙ l .loop .inv .1
 
 pub sum-on-spec : {M : Type 1} → statement M
-sum-on-spec = tie.close (tie.spec Inv μ (λ c. search needs) (λ c. search needs) (λ c κs. search needs) (λ c. search needs) (λ c. search needs) (λ c. search needs) (λ c. search needs))
+sum-on-spec =
+    tie.close
+    (tie.spec
+    Inv-loop
+    μ-loop
+    loop-holds
+    shared-slice-read-check-step
+    check-step-requires
+    add-i
+    loop-less
+    loop-again
+    returns)

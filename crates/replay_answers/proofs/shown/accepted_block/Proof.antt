@@ -1,0 +1,65 @@
+-- The code asks whether two names fill the body, and the block shown is the one accepted under these names.
+use Rattle.laws.specs.Kit.{arith}
+use Rattle.laws.specs.Tests.Laws.{is-equal, is-other}
+use Rattle.desk_text.specs.Put.Laws.{none}
+use Rattle.replay_answers.specs.Answers.{firstName, secondName, behindTwo, twoNames, shownBlock, blockLine}
+use native.Mathlib.Omega.{arith}
+use borrow.Author.Needs.{needs}
+use Rattle.replay_answers.proofs.shown.accepted_block.Statement.{statement}
+use Rattle.replay_answers.proofs.shown.accepted_block.Tie as tie
+
+name-end-requires : tie.Need-name-end-requires
+name-end-requires c κs = search needs
+
+name-end-requires-2 : tie.Need-name-end-requires-2
+name-end-requires-2 c κs = search needs
+
+returns : tie.Need-returns
+unfolding blockLine twoNames behindTwo
+returns c =
+    let n = c .before in
+    let other = rw (n .name-end2 .ensures, n .before .name-end .ensures) at (c .if1 .taken) in
+    rw (is-other _ _ other) (none 0 _ (omega arith))
+
+name-requires : tie.Need-name-requires
+name-requires c κs = search needs
+
+name-requires-2 : tie.Need-name-requires-2
+name-requires-2 c κs = search needs
+
+accepted-block-requires : tie.Need-accepted-block-requires
+accepted-block-requires c κs = search needs
+
+one-requires : tie.Need-one-requires
+one-requires c κs = search needs
+
+answer-with-requires : tie.Need-answer-with-requires
+answer-with-requires c κs = search needs
+
+same-length : tie.Need-same-length
+same-length c = search needs
+
+returns-2 : tie.Need-returns-2
+unfolding blockLine twoNames behindTwo firstName secondName shownBlock
+returns-2 c =
+    let a = c .before .before in
+    let b = a .before .before .before in
+    let e = b .before .before .before in
+    let n = e .before in
+    let filled = rw (n .name-end2 .ensures, n .before .name-end .ensures) at (e .if1 .left) in
+    rw (is-equal _ _ filled) (rw (a .before .one .ensures, b .accepted-block .ensures, b .before .before .name .ensures, b .before .name2 .ensures, n .before .name-end .ensures) at (a .answer-with .ensures))
+
+pub accepted-block-spec : {M : Type 1} → statement M
+accepted-block-spec =
+    tie.close
+    (tie.spec
+    name-end-requires
+    name-end-requires-2
+    returns
+    name-requires
+    name-requires-2
+    accepted-block-requires
+    one-requires
+    answer-with-requires
+    same-length
+    returns-2)
