@@ -177,7 +177,7 @@ printLine body =
 unfoldable pub sealLine : (block : Bytes) → Bytes
 sealLine block = answerLine (wordOf 21) [] (sealed block)
 
--- ---- every call
+-- ---- every call: tags 5 to 22; tags 1 to 4, which only set or show the buffer, are not asked of it
 
 unfoldable pub numbersTold : (tag : ℕ) (book body : Bytes) → List ℕ
 numbersTold tag book body =

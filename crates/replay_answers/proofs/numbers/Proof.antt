@@ -1,17 +1,9 @@
 -- The code asks the definition's questions; only a tag below 8 changes the book.
-use Rattle.laws.specs.Kit.{refl}
+use Rattle.laws.specs.Kit.{needs, refl}
 use Rattle.laws.specs.Tests.Laws.{less-true, less-false}
 use Rattle.replay_answers.specs.Answers.{numbersTold, bookAfter}
-use native.Mathlib.Omega.{arith}
-use borrow.Author.Needs.{needs}
 use Rattle.replay_answers.proofs.numbers.Statement.{statement}
 use Rattle.replay_answers.proofs.numbers.Tie as tie
-
-numbers-requires : tie.Need-numbers-requires
-numbers-requires c κs = search needs
-
-same-length : tie.Need-same-length
-same-length c = search needs
 
 returns : tie.Need-returns
 unfolding numbersTold bookAfter
@@ -19,20 +11,11 @@ returns c =
     let n = c .before .before in
     rw (less-true _ _ (n .before .before .if1 .taken)) (n .numbers .ensures)
 
-numbers-requires-2 : tie.Need-numbers-requires-2
-numbers-requires-2 c κs = search needs
-
-same-length-2 : tie.Need-same-length-2
-same-length-2 c = search needs
-
 returns-2 : tie.Need-returns-2
 unfolding numbersTold bookAfter
 returns-2 c =
     let t = c .before .before in
     rw (less-false _ _ (t .before .if1 .left), less-true _ _ (t .if2 .taken)) (c .numbers2 .ensures, refl)
-
-numbers-requires-3 : tie.Need-numbers-requires-3
-numbers-requires-3 c κs = search needs
 
 returns-3 : tie.Need-returns-3
 unfolding numbersTold bookAfter
@@ -43,12 +26,5 @@ returns-3 c =
 pub numbers-spec : {M : Type 1} → statement M
 numbers-spec =
     tie.close
-    (tie.spec
-    numbers-requires
-    same-length
-    returns
-    numbers-requires-2
-    same-length-2
-    returns-2
-    numbers-requires-3
+    (tie.spec (λ c κs. search needs) (λ c. search needs) returns (λ c κs. search needs) (λ c. search needs) returns-2 (λ c κs. search needs)
     returns-3)

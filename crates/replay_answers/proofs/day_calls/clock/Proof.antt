@@ -1,30 +1,8 @@
 -- The answer told is the clock's.
+use Rattle.laws.specs.Kit.{needs}
 use Rattle.replay_answers.specs.Answers.{clockTold}
-use native.Mathlib.Omega.{arith}
-use borrow.Author.Needs.{needs}
 use Rattle.replay_answers.proofs.day_calls.clock.Statement.{statement}
 use Rattle.replay_answers.proofs.day_calls.clock.Tie as tie
-
-clock-requires : tie.Need-clock-requires
-clock-requires c κs = search needs
-
-cast-four : tie.Need-cast-four
-cast-four c = search needs
-
-cast-four-2 : tie.Need-cast-four-2
-cast-four-2 c = search needs
-
-cast-four-3 : tie.Need-cast-four-3
-cast-four-3 c = search needs
-
-cast-four-4 : tie.Need-cast-four-4
-cast-four-4 c = search needs
-
-four-requires : tie.Need-four-requires
-four-requires c κs = search needs
-
-same-length : tie.Need-same-length
-same-length c = search needs
 
 returns : tie.Need-returns
 unfolding clockTold
@@ -35,12 +13,5 @@ returns c =
 pub clock-spec : {M : Type 1} → statement M
 clock-spec =
     tie.close
-    (tie.spec
-    clock-requires
-    cast-four
-    cast-four-2
-    cast-four-3
-    cast-four-4
-    four-requires
-    same-length
-    returns)
+    (tie.spec (λ c κs. search needs) (λ c. search needs) (λ c. search needs) (λ c. search needs) (λ c. search needs) (λ c κs. search needs)
+    (λ c. search needs) returns)

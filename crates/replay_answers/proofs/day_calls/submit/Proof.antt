@@ -1,24 +1,8 @@
 -- The answer told is the verdict.
+use Rattle.laws.specs.Kit.{needs}
 use Rattle.replay_answers.specs.Answers.{verdictTold}
-use native.Mathlib.Omega.{arith}
-use borrow.Author.Needs.{needs}
 use Rattle.replay_answers.proofs.day_calls.submit.Statement.{statement}
 use Rattle.replay_answers.proofs.day_calls.submit.Tie as tie
-
-submit-requires : tie.Need-submit-requires
-submit-requires c κs = search needs
-
-cast-four : tie.Need-cast-four
-cast-four c = search needs
-
-cast-four-2 : tie.Need-cast-four-2
-cast-four-2 c = search needs
-
-four-requires : tie.Need-four-requires
-four-requires c κs = search needs
-
-same-length : tie.Need-same-length
-same-length c = search needs
 
 returns : tie.Need-returns
 unfolding verdictTold
@@ -28,4 +12,5 @@ returns c =
 
 pub submit-spec : {M : Type 1} → statement M
 submit-spec =
-    tie.close (tie.spec submit-requires cast-four cast-four-2 four-requires same-length returns)
+    tie.close
+    (tie.spec (λ c κs. search needs) (λ c. search needs) (λ c. search needs) (λ c κs. search needs) (λ c. search needs) returns)

@@ -1,10 +1,8 @@
 -- The sum so far and the bytes that are left still give the whole sum.
-use Rattle.laws.specs.Kit.{arith, _≡_, sym, _∙_, _≤_, _-_, length, drop}
+use Rattle.laws.specs.Kit.{needs, _≡_, sym, _∙_, _≤_, _-_, length, drop}
 use denote.Ref.{now}
 use Rattle.paper.specs.Check.{checkFrom}
 use Rattle.facts.specs.Check.{check-from-more, check-from-end}
-use borrow.Author.Needs.{needs}
-use native.Mathlib.Omega.{arith}
 use Rattle.replay_answers.proofs.message_calls.sum_on.Statement.{statement}
 use Rattle.replay_answers.proofs.message_calls.sum_on.Tie as tie
 
@@ -13,21 +11,6 @@ Inv-loop sum series s₀ i₀ s i = (i ≤ length series) × (checkFrom s (drop 
 
 abbrev μ-loop : tie.MeasureT-loop
 μ-loop sum series s₀ i₀ s i = length series - i
-
-loop-holds : tie.Need-loop-holds Inv-loop μ-loop
-loop-holds c = search needs
-
-shared-slice-read-check-step : tie.Need-shared-slice-read-check-step Inv-loop μ-loop
-shared-slice-read-check-step c = search needs
-
-check-step-requires : tie.Need-check-step-requires Inv-loop μ-loop
-check-step-requires c κs = search needs
-
-add-i : tie.Need-add-i Inv-loop μ-loop
-add-i c = search needs
-
-loop-less : tie.Need-loop-less Inv-loop μ-loop
-loop-less c = search needs
 
 loop-again : tie.Need-loop-again Inv-loop μ-loop
 loop-again c = let l = c .before .before .before in
@@ -41,13 +24,5 @@ returns c = let l = c .before in
 pub sum-on-spec : {M : Type 1} → statement M
 sum-on-spec =
     tie.close
-    (tie.spec
-    Inv-loop
-    μ-loop
-    loop-holds
-    shared-slice-read-check-step
-    check-step-requires
-    add-i
-    loop-less
-    loop-again
+    (tie.spec Inv-loop μ-loop (λ c. search needs) (λ c. search needs) (λ c κs. search needs) (λ c. search needs) (λ c. search needs) loop-again
     returns)

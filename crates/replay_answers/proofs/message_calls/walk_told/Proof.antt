@@ -1,9 +1,7 @@
 -- What is counted and summed so far and what is left to ask for still give the whole walk.
-use Rattle.laws.specs.Kit.{arith, _≡_, sym, ap, _∙_, _≤_, _<_, _-_}
+use Rattle.laws.specs.Kit.{needs, arith, _≡_, sym, ap, _∙_, _≤_, _<_, _-_}
 use Rattle.replay_answers.specs.Answers.{walkOn, walkNumbers}
 use Rattle.replay_answers.specs.Answers.Laws.{walk-more, walk-stop, walk-end}
-use borrow.Author.Needs.{needs}
-use native.Mathlib.Omega.{arith}
 use Rattle.replay_answers.proofs.message_calls.walk_told.Statement.{statement}
 use Rattle.replay_answers.proofs.message_calls.walk_told.Tie as tie
 
@@ -13,24 +11,6 @@ Inv-loop message read count₀ sum₀ count sum = (count ≤ 200) × ((sum < 429
 abbrev μ-loop : tie.MeasureT-loop
 μ-loop message read count₀ sum₀ count sum = 200 - count
 
-readable-requires : tie.Need-readable-requires Inv-loop μ-loop
-readable-requires c κs = search needs
-
-loop-holds : tie.Need-loop-holds Inv-loop μ-loop
-loop-holds c = search needs
-
-add-series-at : tie.Need-add-series-at Inv-loop μ-loop
-add-series-at c = search needs
-
-series-at-requires : tie.Need-series-at-requires Inv-loop μ-loop
-series-at-requires c κs = search needs
-
-cast-two : tie.Need-cast-two Inv-loop μ-loop
-cast-two c = search needs
-
-two-requires : tie.Need-two-requires Inv-loop μ-loop
-two-requires c κs = search needs
-
 returns : tie.Need-returns Inv-loop μ-loop
 unfolding walkNumbers
 returns c =
@@ -39,27 +19,12 @@ returns c =
     let empty = rw (t .before .series-at .ensures) at (t .if1 .taken) in
     c .two .ensures ∙ sym (walk-stop _ _ _ (t .before .before .loop-test .taken) empty) ∙ l .loop .inv .1 .1 ∙ ap (λ m. walkOn 200 m 0 0) (l .before .readable .ensures)
 
-sum-on-requires : tie.Need-sum-on-requires Inv-loop μ-loop
-sum-on-requires c κs = search needs
-
-add-count : tie.Need-add-count Inv-loop μ-loop
-add-count c = search needs
-
-loop-less : tie.Need-loop-less Inv-loop μ-loop
-loop-less c = search needs
-
 loop-again : tie.Need-loop-again Inv-loop μ-loop
 loop-again c =
     let e = c .before in
     let i = e .before .before in
     let some = rw (e .before .series-at .ensures) at (e .if1 .left) in
     (omega arith, (omega arith, rw (c .sum-on .ensures, e .before .series-at .ensures) (walk-more _ _ _ (i .loop-test .taken) some ∙ i .before .loop .inv .1 .1)))
-
-cast-two-2 : tie.Need-cast-two-2 Inv-loop μ-loop
-cast-two-2 c = search needs
-
-two-requires-2 : tie.Need-two-requires-2 Inv-loop μ-loop
-two-requires-2 c κs = search needs
 
 returns-2 : tie.Need-returns-2 Inv-loop μ-loop
 unfolding walkNumbers
@@ -70,20 +35,6 @@ returns-2 c =
 pub walk-told-spec : {M : Type 1} → statement M
 walk-told-spec =
     tie.close
-    (tie.spec
-    Inv-loop
-    μ-loop
-    readable-requires
-    loop-holds
-    add-series-at
-    series-at-requires
-    cast-two
-    two-requires
-    returns
-    sum-on-requires
-    add-count
-    loop-less
-    loop-again
-    cast-two-2
-    two-requires-2
-    returns-2)
+    (tie.spec Inv-loop μ-loop (λ c κs. search needs) (λ c. search needs) (λ c. search needs) (λ c κs. search needs) (λ c. search needs)
+    (λ c κs. search needs) returns (λ c κs. search needs) (λ c. search needs) (λ c. search needs) loop-again (λ c. search needs)
+    (λ c κs. search needs) returns-2)

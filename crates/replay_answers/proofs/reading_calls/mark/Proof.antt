@@ -1,19 +1,9 @@
 -- The code asks whether two names fill the body, and the answer told is the mark's of these names.
+use Rattle.laws.specs.Kit.{needs}
 use Rattle.laws.specs.Tests.Laws.{is-equal, is-other}
 use Rattle.replay_answers.specs.Answers.{markTold, firstName, secondName, behindTwo, twoNames, markNumbers}
-use native.Mathlib.Omega.{arith}
-use borrow.Author.Needs.{needs}
 use Rattle.replay_answers.proofs.reading_calls.mark.Statement.{statement}
 use Rattle.replay_answers.proofs.reading_calls.mark.Tie as tie
-
-name-end-requires : tie.Need-name-end-requires
-name-end-requires c κs = search needs
-
-name-end-requires-2 : tie.Need-name-end-requires-2
-name-end-requires-2 c κs = search needs
-
-nothing-requires : tie.Need-nothing-requires
-nothing-requires c κs = search needs
 
 returns : tie.Need-returns
 unfolding markNumbers twoNames behindTwo
@@ -21,24 +11,6 @@ returns c =
     let n = c .before .before in
     let other = rw (n .name-end2 .ensures, n .before .name-end .ensures) at (c .before .if1 .taken) in
     rw (is-other _ _ other) (c .nothing .ensures)
-
-name-requires : tie.Need-name-requires
-name-requires c κs = search needs
-
-name-requires-2 : tie.Need-name-requires-2
-name-requires-2 c κs = search needs
-
-mark-requires : tie.Need-mark-requires
-mark-requires c κs = search needs
-
-cast-four : tie.Need-cast-four
-cast-four c = search needs
-
-cast-four-2 : tie.Need-cast-four-2
-cast-four-2 c = search needs
-
-four-requires : tie.Need-four-requires
-four-requires c κs = search needs
 
 returns-2 : tie.Need-returns-2
 unfolding markNumbers twoNames behindTwo firstName secondName markTold
@@ -52,15 +24,5 @@ returns-2 c =
 pub mark-spec : {M : Type 1} → statement M
 mark-spec =
     tie.close
-    (tie.spec
-    name-end-requires
-    name-end-requires-2
-    nothing-requires
-    returns
-    name-requires
-    name-requires-2
-    mark-requires
-    cast-four
-    cast-four-2
-    four-requires
-    returns-2)
+    (tie.spec (λ c κs. search needs) (λ c κs. search needs) (λ c κs. search needs) returns (λ c κs. search needs) (λ c κs. search needs)
+    (λ c κs. search needs) (λ c. search needs) (λ c. search needs) (λ c κs. search needs) returns-2)

@@ -1,32 +1,10 @@
 -- The code goes by the definition's cases.
+use Rattle.laws.specs.Kit.{needs}
 use Rattle.laws.specs.Tests.{is}
 use Rattle.laws.specs.Tests.Laws.{is-other}
 use Rattle.replay_answers.specs.Answers.{readingNumbers}
-use native.Mathlib.Omega.{arith}
-use borrow.Author.Needs.{needs}
 use Rattle.replay_answers.proofs.reading_calls.numbers.Statement.{statement}
 use Rattle.replay_answers.proofs.reading_calls.numbers.Tie as tie
-
-mark-requires : tie.Need-mark-requires
-mark-requires c κs = search needs
-
-final-value-requires : tie.Need-final-value-requires
-final-value-requires c κs = search needs
-
-plain-run-requires : tie.Need-plain-run-requires
-plain-run-requires c κs = search needs
-
-walk-told-requires : tie.Need-walk-told-requires
-walk-told-requires c κs = search needs
-
-sound-requires : tie.Need-sound-requires
-sound-requires c κs = search needs
-
-flag-requires : tie.Need-flag-requires
-flag-requires c κs = search needs
-
-one-requires : tie.Need-one-requires
-one-requires c κs = search needs
 
 returns : tie.Need-returns
 unfolding readingNumbers is
@@ -54,16 +32,5 @@ returns-5 c =
 pub numbers-spec : {M : Type 1} → statement M
 numbers-spec =
     tie.close
-    (tie.spec
-    mark-requires
-    final-value-requires
-    plain-run-requires
-    walk-told-requires
-    sound-requires
-    flag-requires
-    one-requires
-    returns
-    returns-2
-    returns-3
-    returns-4
-    returns-5)
+    (tie.spec (λ c κs. search needs) (λ c κs. search needs) (λ c κs. search needs) (λ c κs. search needs) (λ c κs. search needs)
+    (λ c κs. search needs) (λ c κs. search needs) returns returns-2 returns-3 returns-4 returns-5)

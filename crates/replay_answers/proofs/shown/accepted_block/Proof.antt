@@ -1,18 +1,10 @@
 -- The code asks whether two names fill the body, and the block shown is the one accepted under these names.
-use Rattle.laws.specs.Kit.{arith}
+use Rattle.laws.specs.Kit.{needs, arith}
 use Rattle.laws.specs.Tests.Laws.{is-equal, is-other}
 use Rattle.desk_text.specs.Put.Laws.{none}
 use Rattle.replay_answers.specs.Answers.{firstName, secondName, behindTwo, twoNames, shownBlock, blockLine}
-use native.Mathlib.Omega.{arith}
-use borrow.Author.Needs.{needs}
 use Rattle.replay_answers.proofs.shown.accepted_block.Statement.{statement}
 use Rattle.replay_answers.proofs.shown.accepted_block.Tie as tie
-
-name-end-requires : tie.Need-name-end-requires
-name-end-requires c κs = search needs
-
-name-end-requires-2 : tie.Need-name-end-requires-2
-name-end-requires-2 c κs = search needs
 
 returns : tie.Need-returns
 unfolding blockLine twoNames behindTwo
@@ -20,24 +12,6 @@ returns c =
     let n = c .before in
     let other = rw (n .name-end2 .ensures, n .before .name-end .ensures) at (c .if1 .taken) in
     rw (is-other _ _ other) (none 0 _ (omega arith))
-
-name-requires : tie.Need-name-requires
-name-requires c κs = search needs
-
-name-requires-2 : tie.Need-name-requires-2
-name-requires-2 c κs = search needs
-
-accepted-block-requires : tie.Need-accepted-block-requires
-accepted-block-requires c κs = search needs
-
-one-requires : tie.Need-one-requires
-one-requires c κs = search needs
-
-answer-with-requires : tie.Need-answer-with-requires
-answer-with-requires c κs = search needs
-
-same-length : tie.Need-same-length
-same-length c = search needs
 
 returns-2 : tie.Need-returns-2
 unfolding blockLine twoNames behindTwo firstName secondName shownBlock
@@ -52,14 +26,5 @@ returns-2 c =
 pub accepted-block-spec : {M : Type 1} → statement M
 accepted-block-spec =
     tie.close
-    (tie.spec
-    name-end-requires
-    name-end-requires-2
-    returns
-    name-requires
-    name-requires-2
-    accepted-block-requires
-    one-requires
-    answer-with-requires
-    same-length
-    returns-2)
+    (tie.spec (λ c κs. search needs) (λ c κs. search needs) returns (λ c κs. search needs) (λ c κs. search needs) (λ c κs. search needs)
+    (λ c κs. search needs) (λ c κs. search needs) (λ c. search needs) returns-2)
