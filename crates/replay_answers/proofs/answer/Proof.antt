@@ -1,5 +1,5 @@
 -- The code goes by the definition's cases; a call that shows bytes leaves the book as it was.
-use Rattle.laws.specs.Kit.{needs, refl}
+use Rattle.laws.specs.Kit.{arith, refl}
 use Rattle.laws.specs.Tests.{is, less}
 use Rattle.laws.specs.Tests.Laws.{is-other}
 use Rattle.replay_answers.specs.Answers.{lineOf, bookAfter}
@@ -47,7 +47,7 @@ returns-6 c =
 pub answer-spec : {M : Type 1} → statement M
 answer-spec =
     tie.close
-    (tie.spec (λ c κs. search needs) (λ c κs. search needs) (λ c κs. search needs) (λ c κs. search needs) (λ c κs. search needs)
-    (λ c κs. search needs) (λ c κs. search needs) (λ c. search needs) (λ c. search needs) (λ c. search needs) returns (λ c. search needs)
-    (λ c. search needs) returns-2 (λ c. search needs) (λ c. search needs) returns-3 (λ c. search needs) (λ c. search needs) returns-4
-    (λ c. search needs) (λ c. search needs) returns-5 (λ c. search needs) (λ c. search needs) (λ c. search needs) returns-6)
+    (tie.spec (λ c κs. tt) (λ c κs. tt) (λ c κs. tt) (λ c κs. tt) (λ c κs. tt)
+    (λ c κs. tt) (λ c κs. tt) (λ c. omega arith) (λ c. omega arith) (λ c. omega arith) returns (λ c. omega arith)
+    (λ c. omega arith) returns-2 (λ c. omega arith) (λ c. omega arith) returns-3 (λ c. omega arith) (λ c. omega arith) returns-4
+    (λ c. omega arith) (λ c. omega arith) returns-5 (λ c. omega arith) (λ c. omega arith) (λ c. omega arith) returns-6)

@@ -1,5 +1,5 @@
 -- The code asks the definition's questions; only a tag below 8 changes the book.
-use Rattle.laws.specs.Kit.{needs, refl}
+use Rattle.laws.specs.Kit.{arith, refl}
 use Rattle.laws.specs.Tests.Laws.{less-true, less-false}
 use Rattle.replay_answers.specs.Answers.{numbersTold, bookAfter}
 use Rattle.replay_answers.proofs.numbers.Statement.{statement}
@@ -26,5 +26,5 @@ returns-3 c =
 pub numbers-spec : {M : Type 1} → statement M
 numbers-spec =
     tie.close
-    (tie.spec (λ c κs. search needs) (λ c. search needs) returns (λ c κs. search needs) (λ c. search needs) returns-2 (λ c κs. search needs)
+    (tie.spec (λ c κs. tt) (λ c. omega arith) returns (λ c κs. tt) (λ c. omega arith) returns-2 (λ c κs. tt)
     returns-3)

@@ -1,5 +1,5 @@
 -- The answer told is the clock's.
-use Rattle.laws.specs.Kit.{needs}
+use Rattle.laws.specs.Kit.{arith}
 use Rattle.replay_answers.specs.Answers.{clockTold}
 use Rattle.replay_answers.proofs.day_calls.clock.Statement.{statement}
 use Rattle.replay_answers.proofs.day_calls.clock.Tie as tie
@@ -13,5 +13,5 @@ returns c =
 pub clock-spec : {M : Type 1} → statement M
 clock-spec =
     tie.close
-    (tie.spec (λ c κs. search needs) (λ c. search needs) (λ c. search needs) (λ c. search needs) (λ c. search needs) (λ c κs. search needs)
-    (λ c. search needs) returns)
+    (tie.spec (λ c κs. tt) (λ c. omega arith) (λ c. omega arith) (λ c. omega arith) (λ c. omega arith) (λ c κs. tt)
+    (λ c. omega arith) returns)

@@ -1,5 +1,5 @@
 -- The code goes by the definition's cases.
-use Rattle.laws.specs.Kit.{needs}
+use Rattle.laws.specs.Kit.{arith}
 use Rattle.laws.specs.Tests.{is}
 use Rattle.laws.specs.Tests.Laws.{is-other}
 use Rattle.replay_answers.specs.Answers.{dayNumbers, dayAfter}
@@ -28,5 +28,5 @@ returns-3 c =
 pub numbers-spec : {M : Type 1} → statement M
 numbers-spec =
     tie.close
-    (tie.spec (λ c κs. search needs) (λ c κs. search needs) (λ c κs. search needs) (λ c κs. search needs) (λ c. search needs) returns
-    (λ c. search needs) returns-2 (λ c. search needs) returns-3)
+    (tie.spec (λ c κs. tt) (λ c κs. tt) (λ c κs. tt) (λ c κs. tt) (λ c. omega arith) returns
+    (λ c. omega arith) returns-2 (λ c. omega arith) returns-3)

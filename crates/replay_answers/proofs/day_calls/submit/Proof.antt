@@ -1,5 +1,5 @@
 -- The answer told is the verdict.
-use Rattle.laws.specs.Kit.{needs}
+use Rattle.laws.specs.Kit.{arith}
 use Rattle.replay_answers.specs.Answers.{verdictTold}
 use Rattle.replay_answers.proofs.day_calls.submit.Statement.{statement}
 use Rattle.replay_answers.proofs.day_calls.submit.Tie as tie
@@ -13,4 +13,4 @@ returns c =
 pub submit-spec : {M : Type 1} → statement M
 submit-spec =
     tie.close
-    (tie.spec (λ c κs. search needs) (λ c. search needs) (λ c. search needs) (λ c κs. search needs) (λ c. search needs) returns)
+    (tie.spec (λ c κs. tt) (λ c. omega arith) (λ c. omega arith) (λ c κs. tt) (λ c. omega arith) returns)

@@ -1,5 +1,5 @@
 -- The answer told is the quantity read.
-use Rattle.laws.specs.Kit.{needs}
+use Rattle.laws.specs.Kit.{arith}
 use Rattle.replay_answers.specs.Answers.{readTold}
 use Rattle.replay_answers.proofs.leaf_calls.read.Statement.{statement}
 use Rattle.replay_answers.proofs.leaf_calls.read.Tie as tie
@@ -11,4 +11,4 @@ returns c = rw (c .before .before .before .quantity-read .ensures) at (c .two .e
 pub read-spec : {M : Type 1} → statement M
 read-spec =
     tie.close
-    (tie.spec (λ c κs. search needs) (λ c. search needs) (λ c. search needs) (λ c κs. search needs) returns)
+    (tie.spec (λ c κs. tt) (λ c. omega arith) (λ c. omega arith) (λ c κs. tt) returns)

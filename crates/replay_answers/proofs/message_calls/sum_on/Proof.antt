@@ -1,5 +1,5 @@
 -- The sum so far and the bytes that are left still give the whole sum.
-use Rattle.laws.specs.Kit.{needs, _≡_, sym, _∙_, _≤_, _-_, length, drop}
+use Rattle.laws.specs.Kit.{needs, arith, _≡_, sym, _∙_, _≤_, _-_, length, drop}
 use denote.Ref.{now}
 use Rattle.paper.specs.Check.{checkFrom}
 use Rattle.facts.specs.Check.{check-from-more, check-from-end}
@@ -24,5 +24,5 @@ returns c = let l = c .before in
 pub sum-on-spec : {M : Type 1} → statement M
 sum-on-spec =
     tie.close
-    (tie.spec Inv-loop μ-loop (λ c. search needs) (λ c. search needs) (λ c κs. search needs) (λ c. search needs) (λ c. search needs) loop-again
+    (tie.spec Inv-loop μ-loop (λ c. omega arith) (λ c. omega arith) (λ c κs. tt) (λ c. omega arith) (λ c. omega arith) loop-again
     returns)

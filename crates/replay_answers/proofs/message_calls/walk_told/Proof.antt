@@ -35,6 +35,6 @@ returns-2 c =
 pub walk-told-spec : {M : Type 1} → statement M
 walk-told-spec =
     tie.close
-    (tie.spec Inv-loop μ-loop (λ c κs. search needs) (λ c. search needs) (λ c. search needs) (λ c κs. search needs) (λ c. search needs)
-    (λ c κs. search needs) returns (λ c κs. search needs) (λ c. search needs) (λ c. search needs) loop-again (λ c. search needs)
-    (λ c κs. search needs) returns-2)
+    (tie.spec Inv-loop μ-loop (λ c κs. tt) (λ c. search needs) (λ c. omega arith) (λ c κs. tt) (λ c. omega arith)
+    (λ c κs. tt) returns (λ c κs. tt) (λ c. omega arith) (λ c. omega arith) loop-again (λ c. omega arith)
+    (λ c κs. tt) returns-2)

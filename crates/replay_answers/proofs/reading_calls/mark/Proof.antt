@@ -1,5 +1,5 @@
 -- The code asks whether two names fill the body, and the answer told is the mark's of these names.
-use Rattle.laws.specs.Kit.{needs}
+use Rattle.laws.specs.Kit.{arith}
 use Rattle.laws.specs.Tests.Laws.{is-equal, is-other}
 use Rattle.replay_answers.specs.Answers.{markTold, firstName, secondName, behindTwo, twoNames, markNumbers}
 use Rattle.replay_answers.proofs.reading_calls.mark.Statement.{statement}
@@ -24,5 +24,5 @@ returns-2 c =
 pub mark-spec : {M : Type 1} → statement M
 mark-spec =
     tie.close
-    (tie.spec (λ c κs. search needs) (λ c κs. search needs) (λ c κs. search needs) returns (λ c κs. search needs) (λ c κs. search needs)
-    (λ c κs. search needs) (λ c. search needs) (λ c. search needs) (λ c κs. search needs) returns-2)
+    (tie.spec (λ c κs. tt) (λ c κs. tt) (λ c κs. tt) returns (λ c κs. tt) (λ c κs. tt)
+    (λ c κs. tt) (λ c. omega arith) (λ c. omega arith) (λ c κs. tt) returns-2)

@@ -1,5 +1,5 @@
 -- The answer told is the plain run's.
-use Rattle.laws.specs.Kit.{needs}
+use Rattle.laws.specs.Kit.{arith}
 use Rattle.replay_answers.specs.Answers.{plainTold}
 use Rattle.replay_answers.proofs.reading_calls.plain_run.Statement.{statement}
 use Rattle.replay_answers.proofs.reading_calls.plain_run.Tie as tie
@@ -11,4 +11,4 @@ returns c = rw (c .before .flag .ensures, c .before .before .before .plain-run .
 pub plain-run-spec : {M : Type 1} → statement M
 plain-run-spec =
     tie.close
-    (tie.spec (λ c κs. search needs) (λ c. search needs) (λ c κs. search needs) (λ c κs. search needs) returns)
+    (tie.spec (λ c κs. tt) (λ c. omega arith) (λ c κs. tt) (λ c κs. tt) returns)

@@ -1,5 +1,5 @@
 -- The buffer has room for every listing: what is shown of it is the whole text.
-use Rattle.laws.specs.Kit.{needs}
+use Rattle.laws.specs.Kit.{arith}
 use Rattle.listing_text.specs.Bound.{listing-most}
 use Rattle.replay_answers.specs.Answers.{listingLine}
 use Rattle.replay_answers.specs.Answers.Laws.{text-read-back}
@@ -18,5 +18,5 @@ returns c =
 pub listing-spec : {M : Type 1} → statement M
 listing-spec =
     tie.close
-    (tie.spec (λ c. search needs) (λ c κs. search needs) (λ c κs. search needs) (λ c. search needs) (λ c κs. search needs) (λ c κs. search needs)
-    (λ c. search needs) returns)
+    (tie.spec (λ c. omega arith) (λ c κs. tt) (λ c κs. tt) (λ c. omega arith) (λ c κs. tt) (λ c κs. tt)
+    (λ c. omega arith) returns)

@@ -1,5 +1,5 @@
 -- The code asks whether there is a quantity, and the buffer shown is the one printed into.
-use Rattle.laws.specs.Kit.{needs, arith}
+use Rattle.laws.specs.Kit.{arith}
 use Rattle.laws.specs.Slices.{rest-slice}
 use Rattle.laws.specs.Tests.Laws.{less-true, less-false}
 use Rattle.desk_text.specs.Put.Laws.{none}
@@ -23,5 +23,5 @@ returns-2 c =
 pub print-spec : {M : Type 1} → statement M
 print-spec =
     tie.close
-    (tie.spec returns (λ c κs. search needs) (λ c. search needs) (λ c. search needs) (λ c. search needs) (λ c κs. search needs) (λ c. search needs)
-    (λ c κs. search needs) (λ c κs. search needs) (λ c. search needs) (λ c. search needs) returns-2)
+    (tie.spec returns (λ c κs. tt) (λ c. omega arith) (λ c. omega arith) (λ c. omega arith) (λ c κs. tt) (λ c. omega arith)
+    (λ c κs. tt) (λ c κs. tt) (λ c. omega arith) (λ c. omega arith) returns-2)

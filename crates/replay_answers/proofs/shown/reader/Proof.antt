@@ -1,5 +1,5 @@
 -- The block shown is the series of that number.
-use Rattle.laws.specs.Kit.{needs}
+use Rattle.laws.specs.Kit.{arith}
 use Rattle.replay_answers.specs.Answers.{shownBlock, readerLine}
 use Rattle.replay_answers.proofs.shown.reader.Statement.{statement}
 use Rattle.replay_answers.proofs.shown.reader.Tie as tie
@@ -14,5 +14,5 @@ returns c =
 pub reader-spec : {M : Type 1} → statement M
 reader-spec =
     tie.close
-    (tie.spec (λ c κs. search needs) (λ c κs. search needs) (λ c. search needs) (λ c κs. search needs) (λ c κs. search needs) (λ c κs. search needs)
-    (λ c. search needs) returns)
+    (tie.spec (λ c κs. tt) (λ c κs. tt) (λ c. omega arith) (λ c κs. tt) (λ c κs. tt) (λ c κs. tt)
+    (λ c. omega arith) returns)

@@ -1,5 +1,5 @@
 -- The block shown is the one sealed.
-use Rattle.laws.specs.Kit.{needs}
+use Rattle.laws.specs.Kit.{arith}
 use Rattle.replay_answers.specs.Answers.{sealLine}
 use Rattle.replay_answers.proofs.shown.seal.Statement.{statement}
 use Rattle.replay_answers.proofs.shown.seal.Tie as tie
@@ -14,4 +14,4 @@ returns c =
 pub seal-spec : {M : Type 1} → statement M
 seal-spec =
     tie.close
-    (tie.spec (λ c κs. search needs) (λ c κs. search needs) (λ c κs. search needs) (λ c. search needs) (λ c. search needs) returns)
+    (tie.spec (λ c κs. tt) (λ c κs. tt) (λ c κs. tt) (λ c. omega arith) (λ c. omega arith) returns)
