@@ -38,17 +38,19 @@ fn shown(line: &[u8], k: usize, length: usize) -> State {
     }
 }
 
-fn answer(tag: u8, book: &mut [u8], body: &mut [u8], line: &mut [u8]) -> usize {
-    match tag {
-        3 => buffer::book(book, line),
-        4 => line::answer(line, tag, buffer::sum(book)),
-        _ => replay_answers::answer(tag, book, body, line),
-    }
+fn set_length(old: usize, new: usize, book: &mut [u8], line: &mut [u8]) -> State {
+    let k = line::answer(line, 1, stream::buffer::set_length(book, old, new));
+    shown(line, k, new)
 }
 
-fn set_length(old: usize, new: usize, book: &mut [u8], line: &mut [u8]) -> State {
-    let k = line::answer(line, 1, buffer::set_length(book, old, new));
-    shown(line, k, new)
+// The line of `book` is followed by the book itself.
+fn answer(tag: u8, book: &mut [u8], body: &mut [u8], line: &mut [u8]) -> State {
+    let k = replay_answers::answer(tag, book, body, line);
+    let s = shown(line, k, book.len());
+    if tag == 3 {
+        buffer::show_rows(book, line);
+    }
+    s
 }
 
 // The body of `bytes` goes straight into the book: no other buffer is as long.
@@ -72,8 +74,7 @@ fn take(
         return set_length(length, number_4(message, 0) as usize, book, line);
     }
     let size = within(n, message);
-    let k = answer(tag, &mut book[..used], &mut message[..size], line);
-    shown(line, k, length)
+    answer(tag, &mut book[..used], &mut message[..size], line)
 }
 
 fn record(

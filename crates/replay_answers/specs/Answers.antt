@@ -1,4 +1,4 @@
--- The line that answers each call of a stream, by its tag and its body, and the book after the call (docs/REPLAY.md, "Records" and "Answers"). Where the
+-- The line that answers each record of a stream, by its tag and its body, and the book after it (docs/REPLAY.md, "Records" and "Answers"). Where the
 -- fields of a record do not fill its body nothing is told and the line is empty: the record is malformed.
 pub mod Laws
 use mathlib.Core.Bool.{Bool, cond}
@@ -33,6 +33,7 @@ use Rattle.paper.specs.Listing.{listing}
 use Rattle.reader.specs.Walk.{readable, seriesAt}
 use Rattle.stream.specs.Fields.{restFrom, nameAt, nameEnd}
 use Rattle.stream.specs.Line.{answerLine, wordOf, toldLine}
+use Rattle.stream.specs.Buffer.{bufferNumbers}
 
 -- ---- which numbers of an answer its line tells, in their order
 
@@ -177,13 +178,14 @@ printLine body =
 unfoldable pub sealLine : (block : Bytes) → Bytes
 sealLine block = answerLine (wordOf 21) [] (sealed block)
 
--- ---- every call: tags 5 to 22; tags 1 to 4, which only set or show the buffer, are not asked of it
+-- ---- every record whose line is made of a book and a body: tags 3 to 22; tags 1 and 2, `length` and `bytes`, are not asked of it (stream, specs/Buffer)
 
 unfoldable pub numbersTold : (tag : ℕ) (book body : Bytes) → List ℕ
 numbersTold tag book body =
-    cond (less tag 8) (dayNumbers tag book body)
+    cond (less tag 5) (bufferNumbers tag book)
+    (cond (less tag 8) (dayNumbers tag book body)
     (cond (less tag 16) (readingNumbers tag book body)
-    (leafNumbers tag body))
+    (leafNumbers tag body)))
 
 unfoldable pub lineOf : (tag : ℕ) (book body : Bytes) → Bytes
 lineOf tag book body =
@@ -194,6 +196,6 @@ lineOf tag book body =
     (cond (is tag 21) (sealLine body)
     (toldLine tag (numbersTold tag book body))))))
 
--- the book after the call: open, clock and submit may change it
+-- the book after it: open, clock and submit may change it
 unfoldable pub bookAfter : (tag : ℕ) (book body : Bytes) → Bytes
-bookAfter tag book body = cond (less tag 8) (dayAfter tag book body) book
+bookAfter tag book body = cond (less tag 5) book (cond (less tag 8) (dayAfter tag book body) book)

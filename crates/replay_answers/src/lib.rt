@@ -1,4 +1,4 @@
-// The line that answers each call of a stream (docs/REPLAY.md). Where the fields of a record do not fill its body nothing is called and nothing told: the
+// The line that answers each record of a stream (docs/REPLAY.md). Where the fields of a record do not fill its body nothing is called and nothing told: the
 // record is malformed.
 pub mod day_calls;
 pub mod leaf_calls;
@@ -10,6 +10,7 @@ ghost use mathlib.Core.Path.{_≡_};
 ghost use Rattle.stream.specs.Told.{numbersOf};
 ghost use Rattle.desk_text.specs.Put.{Put};
 ghost use Rattle.replay_answers.specs.Answers.{numbersTold, lineOf, bookAfter};
+use stream::buffer;
 use stream::line;
 use stream::told::Told;
 
@@ -17,6 +18,9 @@ use stream::told::Told;
 fn numbers(tag: u8, book: &mut [u8], body: &[u8]) -> Told
     ensures { λ r. ⌜ (numbersOf r ≡ numbersTold tag (now (book .entry)) (now (body .entry))) × (now (book .exit) ≡ bookAfter tag (now (book .entry)) (now (body .entry))) ⌝ }
 {
+    if tag < 5 {
+        return buffer::numbers(tag, book);
+    }
     if tag < 8 {
         return day_calls::numbers(tag, book, body);
     }
@@ -28,7 +32,8 @@ fn numbers(tag: u8, book: &mut [u8], body: &[u8]) -> Told
 
 // How many bytes of the buffer the line has; 0, which no line has, where the record is malformed.
 pub fn answer(tag: u8, book: &mut [u8], body: &mut [u8], line: &mut [u8]) -> usize
-    ensures { λ r. ⌜ Put 0 (lineOf tag (now (book .entry)) (now (body .entry))) r (now (line .entry)) (now (line .exit)) × (now (book .exit) ≡ bookAfter tag (now (book .entry)) (now (body .entry))) ⌝ }
+    ensures { λ r. ⌜ Put 0 (lineOf tag (now (book .entry)) (now (body .entry))) r (now (line .entry)) (now (line .exit))
+        × (now (book .exit) ≡ bookAfter tag (now (book .entry)) (now (body .entry))) ⌝ }
 {
     match tag {
         9 => shown::accepted_block(book, body, line),

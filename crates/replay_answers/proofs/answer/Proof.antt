@@ -42,7 +42,8 @@ returns-6 c =
     let a = c .before .before in
     let n = a .before .before .before in
     let rest = n .before .before .before .before .match .rest in
-    rw (is-other _ _ (rest .0 .0 .0 .0 .1), is-other _ _ (rest .0 .0 .0 .1), is-other _ _ (rest .0 .0 .1), is-other _ _ (rest .0 .1), is-other _ _ (rest .1)) (rw (n .numbers .ensures .0) at (a .answer .ensures), n .numbers .ensures .1)
+    rw (is-other _ _ (rest .0 .0 .0 .0 .1), is-other _ _ (rest .0 .0 .0 .1), is-other _ _ (rest .0 .0 .1), is-other _ _ (rest .0 .1), is-other _ _ (rest .1))
+    (rw (n .numbers .ensures .0) at (a .answer .ensures), n .numbers .ensures .1)
 
 pub answer-spec : {M : Type 1} → statement M
 answer-spec =

@@ -1,4 +1,4 @@
--- The code asks the definition's questions; only a tag below 8 changes the book.
+-- The code asks the definition's questions; only tags 5 to 7 change the book.
 use Rattle.laws.specs.Kit.{arith, refl}
 use Rattle.laws.specs.Tests.Laws.{less-true, less-false}
 use Rattle.replay_answers.specs.Answers.{numbersTold, bookAfter}
@@ -7,24 +7,31 @@ use Rattle.replay_answers.proofs.numbers.Tie as tie
 
 returns : tie.Need-returns
 unfolding numbersTold bookAfter
-returns c =
-    let n = c .before .before in
-    rw (less-true _ _ (n .before .before .if1 .taken)) (n .numbers .ensures)
+returns c = rw (less-true _ _ (c .before .before .if1 .taken)) (c .numbers .ensures, refl)
 
 returns-2 : tie.Need-returns-2
 unfolding numbersTold bookAfter
 returns-2 c =
-    let t = c .before .before in
-    rw (less-false _ _ (t .before .if1 .left), less-true _ _ (t .if2 .taken)) (c .numbers2 .ensures, refl)
+    let n = c .before .before in
+    let t = n .before .before in
+    rw (less-false _ _ (t .before .if1 .left), less-true _ _ (t .if2 .taken)) (n .numbers2 .ensures)
 
 returns-3 : tie.Need-returns-3
 unfolding numbersTold bookAfter
 returns-3 c =
+    let t = c .before .before in
+    let e = t .before in
+    rw (less-false _ _ (e .before .if1 .left), less-false _ _ (e .if2 .left), less-true _ _ (t .if3 .taken)) (c .numbers3 .ensures, refl)
+
+returns-4 : tie.Need-returns-4
+unfolding numbersTold bookAfter
+returns-4 c =
     let e = c .before in
-    rw (less-false _ _ (e .before .if1 .left), less-false _ _ (e .if2 .left)) (c .numbers3 .ensures, refl)
+    let d = e .before in
+    rw (less-false _ _ (d .before .if1 .left), less-false _ _ (d .if2 .left), less-false _ _ (e .if3 .left)) (c .numbers4 .ensures, refl)
 
 pub numbers-spec : {M : Type 1} → statement M
 numbers-spec =
     tie.close
     (tie.spec (λ c κs. tt) (λ c. omega arith) returns (λ c κs. tt) (λ c. omega arith) returns-2 (λ c κs. tt)
-    returns-3)
+    (λ c. omega arith) returns-3 (λ c κs. tt) returns-4)

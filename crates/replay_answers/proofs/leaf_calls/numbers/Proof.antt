@@ -33,7 +33,8 @@ unfolding leafNumbers
 returns-5 c =
     let r = c .before in
     let rest = r .before .before .match .rest in
-    rw (is-other _ _ (rest .0 .0 .0 .1), is-other _ _ (rest .0 .0 .1), is-other _ _ (rest .0 .1), is-other _ _ (rest .1)) (rw (r .reason-code .ensures, r .before .byte-or-zero .ensures) at (c .one3 .ensures))
+    rw (is-other _ _ (rest .0 .0 .0 .1), is-other _ _ (rest .0 .0 .1), is-other _ _ (rest .0 .1), is-other _ _ (rest .1))
+    (rw (r .reason-code .ensures, r .before .byte-or-zero .ensures) at (c .one3 .ensures))
 
 pub numbers-spec : {M : Type 1} → statement M
 numbers-spec =

@@ -19,7 +19,8 @@ returns-2 c =
     let p = f .before .before .before in
     let n = p .before .before in
     let filled = rw (n .rest-from .ensures, n .before .name-end2 .ensures, n .before .before .name-end .ensures) at (p .before .if1 .left) in
-    rw (is-equal _ _ filled) (rw (f .final-value .ensures, f .before .before .name .ensures, f .before .name2 .ensures, p .number-2 .ensures, n .before .name-end2 .ensures, n .before .before .name-end .ensures) at (c .two .ensures))
+    let named = rw (f .final-value .ensures, f .before .before .name .ensures, f .before .name2 .ensures) at (c .two .ensures) in
+    rw (is-equal _ _ filled) (rw (p .number-2 .ensures, n .before .name-end2 .ensures, n .before .before .name-end .ensures) at named)
 
 pub final-value-spec : {M : Type 1} → statement M
 final-value-spec =

@@ -21,7 +21,8 @@ returns-2 c =
     let e = b .before .before .before in
     let n = e .before in
     let filled = rw (n .name-end2 .ensures, n .before .name-end .ensures) at (e .if1 .left) in
-    rw (is-equal _ _ filled) (rw (a .before .one .ensures, b .accepted-block .ensures, b .before .before .name .ensures, b .before .name2 .ensures, n .before .name-end .ensures) at (a .answer-with .ensures))
+    rw (is-equal _ _ filled)
+    (rw (a .before .one .ensures, b .accepted-block .ensures, b .before .before .name .ensures, b .before .name2 .ensures, n .before .name-end .ensures) at (a .answer-with .ensures))
 
 pub accepted-block-spec : {M : Type 1} → statement M
 accepted-block-spec =

@@ -18,7 +18,8 @@ returns-2 c =
     let t = a .before .before in
     let q = t .before .before .before .before .before in
     let n = q .before .before .before in
-    rw (less-false _ _ (n .before .before .if1 .left)) (rw (t .two .ensures, q .quantity-print .ensures .0, q .quantity-print .ensures .1, n .number-4 .ensures, rest-slice 4 _) at (a .answer-with .ensures))
+    rw (less-false _ _ (n .before .before .if1 .left))
+    (rw (t .two .ensures, q .quantity-print .ensures .0, q .quantity-print .ensures .1, n .number-4 .ensures, rest-slice 4 _) at (a .answer-with .ensures))
 
 pub print-spec : {M : Type 1} → statement M
 print-spec =
