@@ -5,37 +5,18 @@ use Rattle.desk_text.specs.Numbers.{numberRead, minuteAfter, minuteBefore, minu
 use Rattle.desk_text.specs.Words.{lines, firstPiece, pastPiece, pastPieces, pieceNumbered, lineNumbered, commands}
 use Rattle.desk_text.specs.Arguments.{commandFrom, commandNumber, wordValue, byteValue}
 use Rattle.listing_text.specs.Text.{textLength, textInto}
-use Rattle.laws.specs.Lists.{same}
-use Rattle.laws.specs.Bytes.{part}
 use Rattle.paper.specs.Layout.{Bytes}
-use Rattle.paper.specs.QuantityText.{quantityPrinted, printedInto}
-use Rattle.paper.specs.Listing.{text}
 use Rattle.cases.specs.Opened.{paper}
 use Rattle.cases.specs.Examples.{examples}
 use Rattle.cases_text.specs.Text.{textForm}
-use Rattle.cases_site.specs.Site.{opening, minuteIn, blockWith, laidFirst, messageOf, readsAs, sellersLines, held, sellersText, came, bookAfter, stated, rowRight, rowBook, rowsFrom, tableRun, shown, rightWithPage}
+use Rattle.site_leaves.specs.Leaves.{blockWith}
+use Rattle.cases_site.specs.Site.{opening, minuteIn, laidFirst, messageOf, sellersLines, held, sellersText, came, bookAfter, stated, rowRight, rowBook, rowsFrom, tableRun, shown, rightWithPage}
 use Rattle.cases_site.specs.Tables.{rows, eics, quantities, checks, leads, versions, closed, listed, page}
 
 -- to name it on an `unfolding` line opens the check on site
 unfoldable pub site : ℕ
-unfolding within numberRead minuteAfter minuteBefore minuteRead lines firstPiece pastPiece pastPieces pieceNumbered lineNumbered commands commandFrom commandNumber wordValue byteValue opening minuteIn blockWith laidFirst messageOf readsAs sellersLines held sellersText came bookAfter stated rowRight rowBook rows rowsFrom tableRun textLength textInto shown rightWithPage
+unfolding within numberRead minuteAfter minuteBefore minuteRead lines firstPiece pastPiece pastPieces pieceNumbered lineNumbered commands commandFrom commandNumber wordValue byteValue opening minuteIn blockWith laidFirst messageOf sellersLines held sellersText came bookAfter stated rowRight rowBook rows rowsFrom tableRun textLength textInto shown rightWithPage
 site = 0
-
-pub a-reads : readsAs (text "0.194") 194 ≡ true
-unfolding paper site
-a-reads = refl
-
-pub b-reads : readsAs (text "9999.999") 9999999 ≡ true
-unfolding paper site
-b-reads = refl
-
-pub c-reads : readsAs (text "60.0") 60000 ≡ true
-unfolding paper site
-c-reads = refl
-
-pub printed-right : same (text "60.000") (part 0 ((quantityPrinted 60000 8) .length) (printedInto 60000 (replicate 8 0))) ≡ true
-unfolding paper
-printed-right = refl
 
 -- what asks no book leaves it as it was
 pub eics-right : (book : Bytes) → tableRun book eics ≡ (true, book)

@@ -1,5 +1,5 @@
 -- What a row of the check on site asks of the definitions, and whether the answer is the one that the row expects.
-use Rattle.laws.specs.Base.{Bool, true, cond, List, [], _∷_, _++_, ℕ, zero, suc, _+_, length, replicate}
+use Rattle.laws.specs.Base.{Bool, true, cond, _++_, ℕ, zero, suc, _+_, length, replicate}
 use Rattle.laws.specs.Tests.{_and_, _or_, is, less}
 use Rattle.laws.specs.Lists.{same}
 use Rattle.laws.specs.Bytes.{part, written}
@@ -17,27 +17,21 @@ use Rattle.paper.specs.Listing.{text, listing}
 use Rattle.desk_text.specs.Put.{within}
 use Rattle.desk_text.specs.Numbers.{numberRead, minuteRead}
 use Rattle.desk_text.specs.Words.{firstPiece, pastPiece, pieceNumbered}
-use Rattle.desk_text.specs.Arguments.{commandNumber, wordValue, byteValue}
+use Rattle.desk_text.specs.Arguments.{commandNumber, wordValue}
 use Rattle.listing_text.specs.Text.{textLength, textInto}
 use Rattle.message_text.specs.MessageText.{messageText}
 use Rattle.message_text.specs.declared.TextRead.{TextRead}
 use Rattle.cases.specs.Case.{flag}
 use Rattle.cases.specs.Examples.{seller, buyer, id, parameters}
+use Rattle.site_leaves.specs.Leaves.{numberIn, blockWith}
 
 -- ---- what a row's arguments say
-
-abbrev pub numberIn : Bytes → ℕ
-numberIn s = (numberRead s) .value
 
 unfoldable pub opening : (lead : Bytes) → Opening
 opening lead = parameters (wordValue (numberIn lead))
 
 unfoldable pub minuteIn : (minute : Bytes) → ℕ
 minuteIn minute = (minuteRead minute) .minute .0
-
--- a block that is zero but for one byte
-unfoldable pub blockWith : (at byte : Bytes) → Bytes
-blockWith at byte = written (numberIn at) (byteValue (numberIn byte) ∷ []) (replicate 512 0)
 
 -- what is laid at the front of a buffer
 unfoldable pub laidFirst : TextRead × Bytes → Bytes
@@ -57,10 +51,6 @@ held p = part 0 (within (length p) 512) (written 0 p (replicate 512 0))
 
 unfoldable pub sellersText : (head more : Bytes) → Bytes
 sellersText head more = held ((head ++ sellersLines) ++ more)
-
--- a quantity text is read without a refusal, as so many kilowatts
-unfoldable pub readsAs : (said : Bytes) (kilowatts : ℕ) → Bool
-readsAs said kilowatts = is 0 ((quantityRead said) .number) and is kilowatts ((quantityRead said) .kilowatts)
 
 -- ---- what is called: the number that comes, and the book after it; commands have their numbers in the desk
 

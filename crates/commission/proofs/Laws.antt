@@ -1,4 +1,4 @@
--- Laws of the check on site: verdicts that are joined, and rows that are passed.
+-- Laws of the check on site: rows that are passed.
 use Rattle.laws.specs.Base.{_≡_, refl, ap, Bool, true, false, List, ℕ, zero, suc, _+_, _-_, _≤_, _<_, add-one, sub-zero, arith, length}
 use mir.Val.{boolByte}
 use Rattle.laws.specs.Tests.{_and_, is}
@@ -6,10 +6,6 @@ use Rattle.laws.specs.Tests.Laws.{is-equal, is-other}
 use Rattle.desk_text.specs.Words.{pastPiece, pastPieces, pieceNumbered}
 use Rattle.cases.specs.Case.{flag}
 use Rattle.cases_site.specs.Site.{rowRight, rowBook, rowsFrom}
-
-pub both-true : {r a b : Bool} → r ≡ (a and b) → a ≡ true → b ≡ true → r ≡ true
-unfolding _and_
-both-true e p q = rw (p, q) at e
 
 -- yes is 1 in the code too
 pub as-number : (answer : Bool) → boolByte answer ≡ flag answer

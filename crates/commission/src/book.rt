@@ -11,15 +11,16 @@ ghost use Rattle.paper.specs.Rules.{verdict};
 ghost use Rattle.paper.specs.Acceptance.{submitted};
 ghost use Rattle.desk_text.specs.Put.{Put};
 ghost use Rattle.cases.specs.Examples.{seller, buyer, id};
-ghost use Rattle.cases_site.specs.Site.{numberIn, opening, minuteIn, messageOf, sellersLines, sellersText, shown};
+ghost use Rattle.cases_site.specs.Site.{opening, minuteIn, messageOf, sellersLines, sellersText, shown};
 ghost use Rattle.cases_site.specs.Tables.{page};
-use crate::line;
+ghost use Rattle.site_leaves.specs.Leaves.{numberIn};
 use desk_text::arguments::word_value;
 use desk_text::numbers::minute_read;
 use desk_text::numbers::number_read;
 use desk_text::put::put;
 use field::part_of;
 use paper::Position;
+use site_leaves::line;
 
 pub fn opened(book: &mut [u8], lead: &[u8]) -> u32
     ensures { λ r. ⌜ (r ≡ openNumber (now (book .entry)) (opening (now (lead .entry)))) × (now (book .exit) ≡ opened (now (book .entry)) (opening (now (lead .entry)))) ⌝ }

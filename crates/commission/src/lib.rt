@@ -5,11 +5,11 @@ ghost use mathlib.Core.Path.{_≡_};
 ghost use mathlib.Core.Bool.{true};
 
 mod book;
-mod leaves;
-mod line;
 mod table;
 
 use field::part_of;
+use site_leaves::leaves;
+use site_leaves::line;
 
 fn leaves_right(book: &mut [u8]) -> bool
     ensures { λ r. ⌜ r ≡ true ⌝ }

@@ -3,11 +3,11 @@
 ghost use mathlib.Core.Path.{_≡_};
 ghost use Rattle.cases_site.specs.Site.{came, bookAfter, stated, rowRight, rowBook, tableRun};
 use crate::book;
-use crate::leaves;
-use crate::line;
 use desk_text::arguments::command_number;
 use desk_text::numbers::number_read;
 use desk_text::words::piece_numbered;
+use site_leaves::leaves;
+use site_leaves::line;
 
 // The commands have their numbers in the desk.
 fn came(book: &mut [u8], command: usize, argument: &[u8], more: &[u8]) -> u32

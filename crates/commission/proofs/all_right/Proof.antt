@@ -1,6 +1,6 @@
 -- Every part holds.
 use Rattle.laws.specs.Kit.{needs, refl}
-use Rattle.commission.proofs.Laws.{both-true}
+use Rattle.site_leaves.proofs.Laws.{both-true}
 use Rattle.commission.proofs.all_right.Statement.{statement}
 use Rattle.commission.proofs.all_right.Tie as tie
 

@@ -1,5 +1,5 @@
 -- Each day's table holds.
-use Rattle.commission.proofs.Laws.{both-true}
+use Rattle.site_leaves.proofs.Laws.{both-true}
 use Rattle.commission.proofs.days_right.Statement.{statement}
 use Rattle.commission.proofs.days_right.Tie as tie
 

@@ -3,7 +3,7 @@ use Rattle.laws.specs.Kit.{needs, ap, _∙_, refl}
 use Rattle.paper.specs.Listing.{text}
 use Rattle.cases_site.specs.Tables.{rows, eics, quantities}
 use Rattle.cases_site.specs.Proved.{eics-right, quantities-right}
-use Rattle.commission.proofs.Laws.{both-true}
+use Rattle.site_leaves.proofs.Laws.{both-true}
 use Rattle.commission.proofs.leaves_right.Statement.{statement}
 use Rattle.commission.proofs.leaves_right.Tie as tie
 

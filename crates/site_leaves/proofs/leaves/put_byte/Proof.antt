@@ -2,8 +2,8 @@
 use Rattle.laws.specs.Kit.{needs, sym, refl}
 use Rattle.laws.specs.Base.{set-out}
 use Rattle.laws.specs.Bytes.{written}
-use Rattle.commission.proofs.leaves.put_byte.Statement.{statement}
-use Rattle.commission.proofs.leaves.put_byte.Tie as tie
+use Rattle.site_leaves.proofs.leaves.put_byte.Statement.{statement}
+use Rattle.site_leaves.proofs.leaves.put_byte.Tie as tie
 
 returns : tie.Need-returns
 unfolding written

@@ -1,8 +1,8 @@
 -- The test told is the test answered.
 use Rattle.laws.specs.Kit.{refl}
 use Rattle.laws.specs.Tests.{is}
-use Rattle.commission.proofs.line.number.Statement.{statement}
-use Rattle.commission.proofs.line.number.Tie as tie
+use Rattle.site_leaves.proofs.line.number.Statement.{statement}
+use Rattle.site_leaves.proofs.line.number.Tie as tie
 
 returns : tie.Need-returns
 unfolding is

@@ -1,10 +1,10 @@
 -- Each text is read as it should be, by the definition.
 use Rattle.laws.specs.Kit.{_∙_, refl}
 use Rattle.paper.specs.Listing.{text}
-use Rattle.cases_site.specs.Proved.{a-reads, b-reads, c-reads}
-use Rattle.commission.proofs.Laws.{both-true}
-use Rattle.commission.proofs.leaves.quantities.Statement.{statement}
-use Rattle.commission.proofs.leaves.quantities.Tie as tie
+use Rattle.site_leaves.specs.Proved.{a-reads, b-reads, c-reads}
+use Rattle.site_leaves.proofs.Laws.{both-true}
+use Rattle.site_leaves.proofs.leaves.quantities.Statement.{statement}
+use Rattle.site_leaves.proofs.leaves.quantities.Tie as tie
 
 returns : tie.Need-returns
 unfolding text

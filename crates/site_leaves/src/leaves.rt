@@ -4,7 +4,7 @@ ghost use mathlib.Core.Bool.{true};
 ghost use mathlib.Core.List.{[], _∷_};
 ghost use Rattle.laws.specs.Bytes.{written};
 ghost use Rattle.paper.specs.Check.{checkOf};
-ghost use Rattle.cases_site.specs.Site.{readsAs, blockWith};
+ghost use Rattle.site_leaves.specs.Leaves.{readsAs, blockWith};
 use crate::line;
 use desk_text::arguments::byte_value;
 use desk_text::numbers::number_read;

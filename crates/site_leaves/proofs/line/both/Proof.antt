@@ -1,8 +1,8 @@
 -- The code's `&` is the definition's.
 use Rattle.laws.specs.Kit.{needs, refl}
 use Rattle.laws.specs.Tests.{_and_}
-use Rattle.commission.proofs.line.both.Statement.{statement}
-use Rattle.commission.proofs.line.both.Tie as tie
+use Rattle.site_leaves.proofs.line.both.Statement.{statement}
+use Rattle.site_leaves.proofs.line.both.Tie as tie
 
 returns : tie.Need-returns
 unfolding _and_

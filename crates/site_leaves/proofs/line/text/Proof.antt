@@ -1,7 +1,7 @@
 -- The test told is the test answered.
 use Rattle.laws.specs.Kit.{refl, _∙_}
-use Rattle.commission.proofs.line.text.Statement.{statement}
-use Rattle.commission.proofs.line.text.Tie as tie
+use Rattle.site_leaves.proofs.line.text.Statement.{statement}
+use Rattle.site_leaves.proofs.line.text.Tie as tie
 
 returns : tie.Need-returns
 returns c = c .verdict .ensures ∙ c .before .same .ensures

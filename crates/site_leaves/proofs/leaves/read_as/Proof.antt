@@ -3,9 +3,9 @@ use Rattle.laws.specs.Kit.{ap, _∙_, refl}
 use Rattle.laws.specs.Base.{ap₂}
 use Rattle.laws.specs.Tests.{_and_, is}
 use Rattle.paper.specs.declared.QuantityRead.{QuantityRead}
-use Rattle.cases_site.specs.Site.{readsAs}
-use Rattle.commission.proofs.leaves.read_as.Statement.{statement}
-use Rattle.commission.proofs.leaves.read_as.Tie as tie
+use Rattle.site_leaves.specs.Leaves.{readsAs}
+use Rattle.site_leaves.proofs.leaves.read_as.Statement.{statement}
+use Rattle.site_leaves.proofs.leaves.read_as.Tie as tie
 
 returns : tie.Need-returns
 unfolding readsAs

@@ -6,6 +6,7 @@ ghost use Rattle.laws.specs.Lists.{same};
 ghost use Rattle.paper.specs.Listing.{text};
 ghost use Rattle.desk_text.specs.Put.{Put};
 use desk_text::put::put;
+use desk_text::words::piece_numbered;
 use libc::STDOUT_FILENO;
 
 pub fn say(text: &[u8]) {
@@ -34,17 +35,15 @@ pub fn both(a: bool, b: bool) -> bool
 pub fn put_fitness(line: &mut [u8], right: bool) -> usize
     ensures { λ r. ⌜ Put 0 (cond right (text "every case came as expected: this desk may be put into service\n") (text "a case came otherwise than expected: this desk may not be put into service\n")) r (now (line .entry)) (now (line .exit)) ⌝ }
 {
-    if right {
-        return put(
-            line,
-            0,
-            b"every case came as expected: this desk may be put into service\n",
-        );
-    }
     put(
         line,
         0,
-        b"a case came otherwise than expected: this desk may not be put into service\n",
+        piece_numbered(
+            b"a case came otherwise than expected: this desk may not be put into service\n;\
+            every case came as expected: this desk may be put into service\n",
+            b';',
+            right as usize,
+        ),
     )
 }
 
@@ -72,18 +71,22 @@ pub fn text(what: &[u8], expected: &[u8], came: &[u8]) -> bool
     verdict(field::same(expected, came))
 }
 
-// A case whose answer is a text of several lines, which is shown where it is wrong.
-pub fn page(what: &[u8], expected: &[u8], came: &[u8]) -> bool
-    ensures { λ r. ⌜ r ≡ same (now (expected .entry)) (now (came .entry)) ⌝ }
-{
-    if field::same(expected, came) {
-        say(what);
-        return verdict(true);
-    }
-    say(what);
+// Two texts of several lines, one under the other.
+fn show(expected: &[u8], came: &[u8]) {
     say(b": expected\n");
     say(expected);
     say(b"came\n");
     say(came);
-    verdict(false)
+}
+
+// A case whose answer is a text of several lines, which is shown where it is wrong.
+pub fn page(what: &[u8], expected: &[u8], came: &[u8]) -> bool
+    ensures { λ r. ⌜ r ≡ same (now (expected .entry)) (now (came .entry)) ⌝ }
+{
+    let right = field::same(expected, came);
+    say(what);
+    if !right {
+        show(expected, came);
+    }
+    verdict(right)
 }

@@ -5,9 +5,9 @@ use Rattle.laws.specs.Lists.{same}
 use Rattle.laws.specs.Bytes.{part}
 use Rattle.paper.specs.declared.QuantityPrinted.{QuantityPrinted}
 use Rattle.paper.specs.Listing.{text}
-use Rattle.cases_site.specs.Proved.{printed-right}
-use Rattle.commission.proofs.leaves.printed.Statement.{statement}
-use Rattle.commission.proofs.leaves.printed.Tie as tie
+use Rattle.site_leaves.specs.Proved.{printed-right}
+use Rattle.site_leaves.proofs.leaves.printed.Statement.{statement}
+use Rattle.site_leaves.proofs.leaves.printed.Tie as tie
 
 returns : tie.Need-returns
 unfolding text

@@ -5,9 +5,9 @@ use Rattle.laws.specs.Bytes.{written}
 use Rattle.paper.specs.Check.{checkOf}
 use Rattle.desk_text.specs.declared.NumberRead.{NumberRead}
 use Rattle.desk_text.specs.Arguments.{byteValue}
-use Rattle.cases_site.specs.Site.{blockWith}
-use Rattle.commission.proofs.leaves.check.Statement.{statement}
-use Rattle.commission.proofs.leaves.check.Tie as tie
+use Rattle.site_leaves.specs.Leaves.{blockWith}
+use Rattle.site_leaves.proofs.leaves.check.Statement.{statement}
+use Rattle.site_leaves.proofs.leaves.check.Tie as tie
 
 returns : tie.Need-returns
 unfolding blockWith

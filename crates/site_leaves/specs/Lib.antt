@@ -1,0 +1,3 @@
+-- The check on site, by the definitions: what needs no book.
+pub mod Leaves
+pub mod Proved
