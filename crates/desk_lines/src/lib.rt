@@ -33,6 +33,12 @@ fn put_status(line: &mut [u8], number: u32) -> usize
     put_worded(line, 0, b"refused ", number as usize)
 }
 
+fn put_end(line: &mut [u8], at: usize) -> usize
+    ensures { λ r. ⌜ Put at (text "\n") r (now (line .entry)) (now (line .exit)) ⌝ }
+{
+    put(line, at, b"\n")
+}
+
 // Nothing needs to be explained of an acceptance.
 fn put_reason(line: &mut [u8], at: usize, number: u32) -> usize
     ensures { λ r. ⌜ Put at (reason number) r (now (line .entry)) (now (line .exit)) ⌝ }
@@ -83,14 +89,14 @@ pub fn verdict_line(line: &mut [u8], verdict: Verdict) -> usize
         verdict.position.0,
     );
     let b = put_reply(line, a, codes::reply(verdict.number));
-    put(line, b, b"\n")
+    put_end(line, b)
 }
 
 pub fn number_line(line: &mut [u8], number: u32) -> usize
     ensures { λ r. ⌜ Put 0 (numberLine number) r (now (line .entry)) (now (line .exit)) ⌝ }
 {
     let a = put_answer_of(line, number);
-    put(line, a, b"\n")
+    put_end(line, a)
 }
 
 fn put_day(line: &mut [u8], at: usize, day: DayState) -> usize
@@ -100,7 +106,7 @@ fn put_day(line: &mut [u8], at: usize, day: DayState) -> usize
     let b = put_worded(line, a, b" lead ", day.lead as usize);
     let c = put(line, b, b" clock ");
     let d = put_minute(line, c, day.clock);
-    put(line, d, b"\n")
+    put_end(line, d)
 }
 
 // A refused clock tells the day's state too, but on 1 there is none.
@@ -109,7 +115,7 @@ pub fn clock_line(line: &mut [u8], answer: ClockAnswer) -> usize
 {
     let a = put_answer_of(line, answer.number);
     if answer.number == 1 {
-        return put(line, a, b"\n");
+        return put_end(line, a);
     }
     put_day(line, a, answer.state)
 }
@@ -136,7 +142,7 @@ pub fn mark_line(line: &mut [u8], answer: MarkAnswer) -> usize
 {
     let a = put_answer_of(line, answer.number);
     if answer.number != 0 {
-        return put(line, a, b"\n");
+        return put_end(line, a);
     }
     let b = put(line, a, b": ");
     let c = put_mark(
@@ -147,7 +153,7 @@ pub fn mark_line(line: &mut [u8], answer: MarkAnswer) -> usize
         answer.partner.0,
         answer.code,
     );
-    put(line, c, b"\n")
+    put_end(line, c)
 }
 
 pub fn final_line(line: &mut [u8], answer: FinalAnswer) -> usize
@@ -155,7 +161,7 @@ pub fn final_line(line: &mut [u8], answer: FinalAnswer) -> usize
 {
     let a = put_answer_of(line, answer.number);
     if answer.number != 0 {
-        return put(line, a, b"\n");
+        return put_end(line, a);
     }
     let b = put(line, a, b": ");
     let c = put_megawatts(line, b, answer.kilowatts);
@@ -167,7 +173,7 @@ pub fn plain_line(line: &mut [u8], answer: PlainRunAnswer) -> usize
 {
     let a = put_answer_of(line, answer.number);
     if answer.number != 0 {
-        return put(line, a, b"\n");
+        return put_end(line, a);
     }
     if answer.holds {
         return put(line, a, b": yes, every kept mark and net is true\n");
@@ -180,12 +186,12 @@ pub fn quantity_line(line: &mut [u8], answer: QuantityRead) -> usize
 {
     let a = put_answer_of(line, answer.number);
     if answer.number != 0 {
-        return put(line, a, b"\n");
+        return put_end(line, a);
     }
     let b = put_worded(line, a, b": ", answer.kilowatts as usize);
     let c = put(line, b, b" kW, printed ");
     let d = put_megawatts(line, c, answer.kilowatts);
-    put(line, d, b"\n")
+    put_end(line, d)
 }
 
 pub fn eic_line(line: &mut [u8], valid: bool) -> usize
@@ -261,9 +267,9 @@ pub fn block_line(line: &mut [u8], number: u32, x: &[u8]) -> usize
 {
     let a = put_answer_of(line, number);
     if number != 0 {
-        return put(line, a, b"\n");
+        return put_end(line, a);
     }
     let b = put_series(line, a, x);
     let c = put_quantities(line, b, layout::quantities(x), layout::n_of(x) as usize);
-    put(line, c, b"\n")
+    put_end(line, c)
 }

@@ -1,5 +1,5 @@
 -- The four parts stand one behind the other.
-use Rattle.laws.specs.Kit.{needs, arith}
+use Rattle.laws.specs.Kit.{arith, refl}
 use Rattle.paper.specs.Listing.{text}
 use Rattle.desk_lines.specs.Lines.{markText}
 use Rattle.desk_text.specs.Put.Laws.{then}
@@ -11,4 +11,4 @@ unfolding markText text
 returns c = then (then (then (c .before .before .before .before .before .before .before .before .before .before .before .before .before .before .before .before .put-worded .ensures) (c .before .before .before .before .before .before .before .before .before .before .before .put-worded2 .ensures)) (c .before .before .before .before .before .before .put-worded3 .ensures)) (c .before .before .put-state .ensures)
 
 pub put-mark-spec : {M : Type 1} → statement M
-put-mark-spec = tie.close (tie.spec (λ c. omega arith) (λ c κs. tt) (λ c. omega arith) (λ c κs. tt) (λ c. omega arith) (λ c κs. tt) (λ c κs. tt) (search needs) returns)
+put-mark-spec = tie.close (tie.spec (λ c. refl) (λ c κs. tt) (λ c. refl) (λ c κs. tt) (λ c. refl) (λ c κs. tt) (λ c κs. tt) (λ c. omega arith) returns)

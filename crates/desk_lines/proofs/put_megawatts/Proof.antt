@@ -1,5 +1,5 @@
 -- What printing put into the eight bytes, up to the length that it answered, is the quantity's text.
-use Rattle.laws.specs.Kit.{needs, arith, refl, _∙_}
+use Rattle.laws.specs.Kit.{arith, _∙_, refl}
 use lib.ListN.{replicate}
 use Rattle.desk_text.specs.Put.Laws.{called}
 use Rattle.desk_lines.proofs.Laws.{printed-part}
@@ -13,4 +13,4 @@ returns c =
     called _ (rw (q .1, q .0) at (p .before .part-of .ensures) ∙ printed-part _ (replicate 8 0) refl) (p .put .ensures)
 
 pub put-megawatts-spec : {M : Type 1} → statement M
-put-megawatts-spec = tie.close (tie.spec (λ c. omega arith) (λ c κs. tt) (λ c. omega arith) (λ c. omega arith) (λ c κs. tt) (search needs) returns)
+put-megawatts-spec = tie.close (tie.spec (λ c. refl) (λ c κs. tt) (λ c. omega arith) (λ c. omega arith) (λ c κs. tt) (λ c. omega arith) returns)

@@ -1,5 +1,5 @@
 -- The fields are the block's, and stand one behind the other.
-use Rattle.laws.specs.Kit.{needs, arith, ap}
+use Rattle.laws.specs.Kit.{arith, ap, refl}
 use Rattle.paper.specs.Listing.{text}
 use Rattle.desk_lines.specs.Lines.{nameText}
 use Rattle.desk_text.specs.Pieces.{worded}
@@ -16,4 +16,4 @@ returns c =
     then (then (then i v) b) (rw (c .before .before .before .out-party .ensures) at (c .before .before .put-field3 .ensures))
 
 pub put-name-spec : {M : Type 1} → statement M
-put-name-spec = tie.close (tie.spec (λ c. omega arith) (λ c κs. tt) (λ c κs. tt) (λ c κs. tt) (λ c. omega arith) (λ c κs. tt) (λ c. omega arith) (λ c κs. tt) (λ c. omega arith) (λ c κs. tt) (λ c κs. tt) (λ c. omega arith) (λ c κs. tt) (λ c κs. tt) (search needs) returns)
+put-name-spec = tie.close (tie.spec (λ c. refl) (λ c κs. tt) (λ c κs. tt) (λ c κs. tt) (λ c. refl) (λ c κs. tt) (λ c. omega arith) (λ c κs. tt) (λ c. refl) (λ c κs. tt) (λ c κs. tt) (λ c. refl) (λ c κs. tt) (λ c κs. tt) (λ c. omega arith) returns)

@@ -1,5 +1,5 @@
 -- Nothing, or the colon and then the words.
-use Rattle.laws.specs.Kit.{needs, arith}
+use Rattle.laws.specs.Kit.{arith, refl}
 use Rattle.laws.specs.Tests.Laws.{is-equal, is-other}
 use Rattle.paper.specs.Listing.{text}
 use Rattle.desk_lines.specs.Lines.{reason}
@@ -16,4 +16,4 @@ unfolding reason text
 returns-2 c = rw (is-other _ _ (c .before .before .before .before .before .before .before .before .before .if1 .left)) (then (c .before .before .before .before .before .before .put2 .ensures) (c .before .before .put-meaning .ensures))
 
 pub put-reason-spec : {M : Type 1} → statement M
-put-reason-spec = tie.close (tie.spec (λ c. omega arith) (λ c κs. tt) (search needs) returns (λ c. omega arith) (λ c κs. tt) (λ c κs. tt) (search needs) returns-2)
+put-reason-spec = tie.close (tie.spec (λ c. refl) (λ c κs. tt) (λ c. omega arith) returns (λ c. refl) (λ c κs. tt) (λ c κs. tt) (λ c. omega arith) returns-2)

@@ -1,5 +1,5 @@
 -- Name and mark stand one behind the other, and the mark's fields are the block's.
-use Rattle.laws.specs.Kit.{needs, arith}
+use Rattle.laws.specs.Kit.{arith, refl}
 use Rattle.paper.specs.Listing.{text}
 use Rattle.desk_lines.specs.Lines.{seriesText}
 use Rattle.desk_text.specs.Put.Laws.{then}
@@ -13,4 +13,4 @@ returns c =
     (rw (← c .before .before .before .before .before .first .ensures, ← c .before .before .before .before .partner .ensures, ← c .before .before .before .before .before .before .before .state .ensures, ← c .before .before .before .state-code .ensures) (c .before .before .put-mark .ensures))
 
 pub put-series-spec : {M : Type 1} → statement M
-put-series-spec = tie.close (tie.spec (λ c κs. tt) (λ c. omega arith) (λ c κs. tt) (λ c κs. tt) (λ c κs. tt) (λ c κs. tt) (λ c κs. tt) (λ c κs. tt) (search needs) returns)
+put-series-spec = tie.close (tie.spec (λ c κs. tt) (λ c. refl) (λ c κs. tt) (λ c κs. tt) (λ c κs. tt) (λ c κs. tt) (λ c κs. tt) (λ c κs. tt) (λ c. omega arith) returns)

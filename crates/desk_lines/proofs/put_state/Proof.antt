@@ -1,5 +1,5 @@
 -- The code, the comma, then the words.
-use Rattle.laws.specs.Kit.{needs, arith}
+use Rattle.laws.specs.Kit.{arith, refl}
 use Rattle.paper.specs.Listing.{text}
 use Rattle.desk_lines.specs.Lines.{stateText}
 use Rattle.desk_text.specs.Put.Laws.{then}
@@ -11,4 +11,4 @@ unfolding stateText text
 returns c = then (then (c .before .before .before .before .before .before .before .before .before .before .before .put-code .ensures) (c .before .before .before .before .before .before .put .ensures)) (c .before .before .put-state-meaning .ensures)
 
 pub put-state-spec : {M : Type 1} → statement M
-put-state-spec = tie.close (tie.spec (λ c κs. tt) (λ c. omega arith) (λ c κs. tt) (λ c κs. tt) (search needs) returns)
+put-state-spec = tie.close (tie.spec (λ c κs. tt) (λ c. refl) (λ c κs. tt) (λ c κs. tt) (λ c. omega arith) returns)

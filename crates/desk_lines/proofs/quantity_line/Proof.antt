@@ -1,5 +1,5 @@
 -- The answer, and the newline of a refusal, else the quantity read and printed again.
-use Rattle.laws.specs.Kit.{needs, arith}
+use Rattle.laws.specs.Kit.{arith, refl}
 use Rattle.laws.specs.Tests.Laws.{is-equal, is-other}
 use Rattle.paper.specs.Listing.{text}
 use Rattle.desk_lines.specs.Lines.{telling, quantityLine}
@@ -9,11 +9,11 @@ use Rattle.desk_lines.proofs.quantity_line.Tie as tie
 
 returns : tie.Need-returns
 unfolding quantityLine telling text
-returns c = rw (is-other _ _ (c .before .before .before .before .before .if1 .taken)) (then (c .before .before .before .before .before .before .before .before .before .put-answer-of .ensures) (c .before .before .put .ensures))
+returns c = rw (is-other _ _ (c .before .before .before .before .if1 .taken)) (then (c .before .before .before .before .before .before .before .before .put-answer-of .ensures) (c .before .before .put-end .ensures))
 
 returns-2 : tie.Need-returns-2
 unfolding quantityLine telling text
-returns-2 c = rw (is-equal _ _ (c .before .before .before .before .before .before .before .before .before .before .before .before .before .before .before .before .before .before .before .before .if1 .left)) (then (c .before .before .before .before .before .before .before .before .before .before .before .before .before .before .before .before .before .before .before .before .before .before .before .before .put-answer-of .ensures) (then (then (then (c .before .before .before .before .before .before .before .before .before .before .before .before .before .before .before .before .put-worded .ensures) (c .before .before .before .before .before .before .before .before .before .before .before .put2 .ensures)) (c .before .before .before .before .before .before .before .put-megawatts .ensures)) (c .before .before .put3 .ensures)))
+returns-2 c = rw (is-equal _ _ (c .before .before .before .before .before .before .before .before .before .before .before .before .before .before .before .before .before .before .before .if1 .left)) (then (c .before .before .before .before .before .before .before .before .before .before .before .before .before .before .before .before .before .before .before .before .before .before .before .put-answer-of .ensures) (then (then (then (c .before .before .before .before .before .before .before .before .before .before .before .before .before .before .before .put-worded .ensures) (c .before .before .before .before .before .before .before .before .before .before .put .ensures)) (c .before .before .before .before .before .before .put-megawatts .ensures)) (c .before .before .put-end2 .ensures)))
 
 pub quantity-line-spec : {M : Type 1} → statement M
-quantity-line-spec = tie.close (tie.spec (λ c κs. tt) (λ c. omega arith) (λ c κs. tt) (search needs) returns (λ c. omega arith) (λ c. omega arith) (λ c κs. tt) (λ c. omega arith) (λ c κs. tt) (λ c κs. tt) (λ c. omega arith) (λ c κs. tt) (search needs) returns-2)
+quantity-line-spec = tie.close (tie.spec (λ c κs. tt) (λ c κs. tt) (λ c. omega arith) returns (λ c. refl) (λ c. omega arith) (λ c κs. tt) (λ c. refl) (λ c κs. tt) (λ c κs. tt) (λ c κs. tt) (λ c. omega arith) returns-2)
