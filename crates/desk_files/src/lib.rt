@@ -6,7 +6,7 @@ use desk_answers::Told;
 use desk_text::arguments::book_length;
 use desk_text::arguments::folder_length;
 use desk_text::arguments::put_beside;
-use desk_text::words::line_numbered;
+use desk_text::words::piece_numbered;
 use desk_text::words::word;
 use field::part_of;
 use field::same;
@@ -18,7 +18,7 @@ pub mod messages;
 // The length of what is not loaded: no room has as many bytes.
 pub const NOT_LOADED: usize = usize::MAX;
 
-// What stands in the way, by the line of `failed` that says it.
+// What stands in the way, by the piece of `failed` that says it.
 const MISSING: usize = 0;
 
 const NOT_OPENED: usize = 1;
@@ -47,19 +47,26 @@ pub fn say(text: &[u8]) {
     io::write_all(STDOUT_FILENO, text);
 }
 
-fn say_why(why: usize) {
-    let lines =
-        b"there is no such file\nthe file cannot be opened\nthe file cannot be read\nthe file is longer than a book of 1001 blocks\nthe file is longer than a message of 201 blocks\nthe file is longer than the text of any message\nthe file is there; another desk changes the book, or one was cut off and the file is to be removed\nthe file cannot be made\nthe new book cannot be written\nthe new book cannot take this name\nthe new book has this name, but a power cut may bring back what stood here before\nthe file is there; the word replace at the end of the command replaces it\n";
-    say(line_numbered(lines, why));
-}
-
 // A line on what stands in the way, which is no answer of document 01's.
 fn failed(path: &[u8], why: usize) -> usize {
     say(b"failed: ");
     say(path);
-    say(b": ");
-    say_why(why);
-    say(b"\n");
+    say(piece_numbered(
+        b": there is no such file\n|\
+            : the file cannot be opened\n|\
+            : the file cannot be read\n|\
+            : the file is longer than a book of 1001 blocks\n|\
+            : the file is longer than a message of 201 blocks\n|\
+            : the file is longer than the text of any message\n|\
+            : the file is there; another desk changes the book, or one was cut off and the file is to be removed\n|\
+            : the file cannot be made\n|\
+            : the new book cannot be written\n|\
+            : the new book cannot take this name\n|\
+            : the new book has this name, but a power cut may bring back what stood here before\n|\
+            : the file is there; the word replace at the end of the command replaces it\n",
+        b'|',
+        why,
+    ));
     NOT_LOADED
 }
 
