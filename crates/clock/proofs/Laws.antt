@@ -1,12 +1,5 @@
 -- The answers of the clock's call, and the book as it leaves it.
-use mathlib.Core.Path.{_≡_}
-use mathlib.Core.Bool.{true, false}
-use mathlib.Core.List.{_++_}
-use Prim.Native.Nat.{ℕ, _≤_}
-use native.Mathlib.Omega.{arith}
-use lib.ListN.{length, take, drop}
-use Rattle.laws.specs.Tests.{is}
-use Rattle.laws.specs.Tests.Laws.{is-equal, is-other}
+use Rattle.laws.specs.Kit.{_≡_, true, false, _++_, ℕ, _≤_, arith, length, take, drop, is, is-equal, is-other}
 use Rattle.laws.specs.Bytes.{part}
 use Rattle.paper.specs.declared.ClockAnswer.{ClockAnswer}
 use Rattle.paper.specs.declared.DayState.{DayState}

@@ -1,11 +1,5 @@
 -- A number above every row's has no code.
-use mathlib.Core.Path.{_≡_, refl, sym}
-use mathlib.Core.Bool.{true}
-use mathlib.Core.List.{List, [], _∷_}
-use Prim.Native.Nat.{ℕ, _<_}
-use native.Mathlib.Omega.{arith}
-use Rattle.laws.specs.Tests.{_and_, less}
-use Rattle.laws.specs.Tests.Laws.{is-other, less-yes, and-left, and-right}
+use Rattle.laws.specs.Kit.{_≡_, refl, sym, true, List, [], _∷_, ℕ, _<_, arith, _and_, less, is-other, less-yes, and-left, and-right}
 use Rattle.laws.specs.Lists.{every}
 use Rattle.paper.specs.Codes.{Row, table, codeIn, reasonCode}
 

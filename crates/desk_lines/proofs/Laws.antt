@@ -1,13 +1,5 @@
 -- Laws of quantities in a line.
-use mathlib.Core.Path.{_≡_, refl}
-use mathlib.Core.List.{List, _∷_}
-use Prim.Native.Nat.{ℕ, _+_, _≤_}
-use native.Mathlib.Numerals.{add-one}
-use native.Mathlib.Omega.{arith}
-use lib.ListN.{length}
-use lib.Seq.{take-at}
-use Rattle.laws.specs.Tests.{less, is}
-use Rattle.laws.specs.Tests.Laws.{split, less-no, less-false}
+use Rattle.laws.specs.Kit.{_≡_, refl, List, _∷_, ℕ, _+_, _≤_, add-one, arith, length, take-at, less, is, split, less-no, less-false}
 use Rattle.laws.specs.Bytes.{part}
 use Rattle.paper.specs.Layout.{entry}
 use Rattle.paper.specs.QuantityText.{quantityText, quantityPrinted, printedInto}

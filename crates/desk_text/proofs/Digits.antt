@@ -1,12 +1,5 @@
 -- Laws of digits written and read.
-use mathlib.Core.Path.{_≡_, refl}
-use mathlib.Core.Bool.{true, false}
-use mathlib.Core.List.{List, [], _∷_}
-use Prim.Native.Nat.{ℕ, zero, suc, _/_, _≤_}
-use native.Mathlib.Omega.{arith}
-use lib.ListN.{length, getD, take, length-append}
-use Rattle.laws.specs.Tests.{_and_, is, upto}
-use Rattle.laws.specs.Tests.Laws.{and-both, upto-true, is-other}
+use Rattle.laws.specs.Kit.{_≡_, refl, true, false, List, [], _∷_, ℕ, zero, suc, _/_, _≤_, arith, length, getD, take, length-append, _and_, is, upto, and-both, upto-true, is-other}
 use Rattle.laws.specs.Lists.{every}
 use Rattle.laws.specs.Bytes.{part, written}
 use Rattle.laws.specs.Bytes.Laws.{part-written-same}

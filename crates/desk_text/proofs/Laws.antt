@@ -1,13 +1,5 @@
 -- Laws of the loops: a text put byte by byte, its pieces passed by, the command that a word names.
-use mathlib.Core.Path.{_≡_, sym, ap, _∙_}
-use mathlib.Core.Bool.{true, false, cond}
-use mathlib.Core.List.{List}
-use Prim.Native.Nat.{ℕ, zero, suc, _+_, _-_, _≤_, _<_}
-use native.Mathlib.Numerals.{add-one}
-use native.Mathlib.Omega.{arith}
-use lib.ListN.{length, drop, getD, set, drop-of-length-le}
-use lib.Seq.{drop-cons, drop-drop}
-use Rattle.laws.specs.Tests.{is}
+use Rattle.laws.specs.Kit.{_≡_, sym, ap, _∙_, true, false, cond, List, ℕ, zero, suc, _+_, _-_, _≤_, _<_, add-one, arith, length, drop, getD, set, drop-of-length-le, drop-cons, drop-drop, is}
 use Rattle.laws.specs.Lists.{same}
 use Rattle.laws.specs.Bytes.{written}
 use Rattle.laws.specs.Bytes.Laws.{written-none, written-cons}

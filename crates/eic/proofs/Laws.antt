@@ -1,12 +1,5 @@
 -- Laws of the check, as the code asks for them.
-use Rattle.laws.specs.Kit.{_≡_, refl, sym, ap, _∙_, Bool, true, false, cond, List, ℕ, _+_, _-_, _*_, _≤_, _<_, arith, length, take, drop, getD, split}
-use Prim.Native.Nat.{_%_}
-use native.Mathlib.Nat.{zero-add, add-assoc, mul-le-mul}
-use native.Mathlib.Numerals.{add-one}
-use lib.ListN.{drop-of-length-le}
-use lib.Seq.{drop-cons, take-all}
-use Rattle.laws.specs.Tests.{_and_, neg, is}
-use Rattle.laws.specs.Tests.Laws.{and-no-right, and-assoc, neg-true, is-yes, is-equal, is-other}
+use Rattle.laws.specs.Kit.{_≡_, refl, sym, ap, _∙_, Bool, true, false, cond, List, ℕ, _+_, _-_, _*_, _≤_, _<_, arith, length, take, drop, getD, split, _%_, zero-add, add-assoc, mul-le-mul, add-one, drop-of-length-le, drop-cons, take-all, _and_, neg, is, and-no-right, and-assoc, neg-true, is-yes, is-equal, is-other}
 use Rattle.laws.specs.Lists.{every}
 use Rattle.laws.specs.Lists.Each.{every-more}
 use Rattle.paper.specs.Ids.{hyphen}

@@ -1,9 +1,6 @@
 -- The contract of each call allows one outcome. A `Post` is the contract itself: a claim on the lent buffers' lives, the arguments, the answer, and the arguments as
 -- they stand at the end. Nothing here is assumed of the code.
-use mathlib.Core.Path.{_≡_, sym, _∙_}
-use mathlib.Core.List.{List}
-use Prim.Native.Nat.{ℕ}
-use denote.Ref.{now}
+use Rattle.laws.specs.Kit.{_≡_, sym, _∙_, List, ℕ, now}
 use Rattle.export.proofs.tetherbay_check.Reads as check
 use Rattle.export.proofs.tetherbay_checks_right.Reads as checks-right
 use Rattle.export.proofs.tetherbay_seal.Reads as seal

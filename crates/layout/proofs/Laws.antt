@@ -1,12 +1,5 @@
 -- Fields written byte by byte and number by number: what is left to write, over what is written, gives the whole.
-use mathlib.Core.Path.{_≡_, refl, sym, ap, _∙_}
-use mathlib.Core.List.{List}
-use Prim.Native.Nat.{ℕ, zero, suc, _+_, _-_, _*_, _/_, _%_, _≤_, _<_}
-use native.Mathlib.Nat.{add-zero}
-use native.Mathlib.Numerals.{add-one}
-use native.Mathlib.Omega.{arith}
-use lib.ListN.{length, drop, getD, set, length-append}
-use lib.Seq.{getD-drop, drop-drop}
+use Rattle.laws.specs.Kit.{_≡_, refl, sym, ap, _∙_, List, ℕ, zero, suc, _+_, _-_, _*_, _/_, _%_, _≤_, _<_, add-zero, add-one, arith, length, drop, getD, set, length-append, getD-drop, drop-drop}
 use Rattle.laws.specs.Bytes.{written, little, number}
 use Rattle.laws.specs.Bytes.Laws.{number-1, written-none, written-cons, written-append, little-length}
 use Rattle.paper.specs.Layout.{Bytes, Block}

@@ -1,14 +1,9 @@
 -- A text put piece by piece.
 pub mod Line
 pub mod Whole
-use mathlib.Core.Path.{_≡_, refl, sym, ap, _∙_}
-use mathlib.Core.List.{[], _∷_, _++_}
-use Prim.Native.Nat.{ℕ, _+_}
-use native.Mathlib.Nat.{add-zero, add-assoc}
-use lib.ListN.{length, drop, set, length-append}
+use Rattle.laws.specs.Kit.{_≡_, refl, sym, ap, _∙_, [], _∷_, _++_, ℕ, _+_, add-zero, add-assoc, length, drop, set, length-append, Step, End}
 use Rattle.laws.specs.Bytes.{written}
 use Rattle.laws.specs.Bytes.Laws.{written-none, written-cons, written-append}
-use Rattle.laws.specs.Loops.{Step, End}
 use Rattle.paper.specs.Layout.{Bytes}
 use Rattle.listing_text.specs.Text.{Appended}
 

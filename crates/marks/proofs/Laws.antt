@@ -1,8 +1,5 @@
 -- A counterpart is linked in the bucket of its pair; the first difference position by position, and the mark from the numbers that the code finds.
-use Rattle.laws.specs.Kit.{_≡_, refl, sym, ap, _∙_, true, cond, List, [], _∷_, ℕ, _+_, _-_, _≤_, _<_, arith}
-use Prim.Native.Nat.{zero, suc}
-use Rattle.laws.specs.Tests.{is}
-use Rattle.laws.specs.Tests.Laws.{is-equal, is-other, is-same, and-left, and-right, and-both}
+use Rattle.laws.specs.Kit.{_≡_, refl, sym, ap, _∙_, true, cond, List, [], _∷_, ℕ, _+_, _-_, _≤_, _<_, arith, zero, suc, is, is-equal, is-other, is-same, and-left, and-right, and-both}
 use Rattle.laws.specs.Lists.{same}
 use Rattle.laws.specs.Lists.Same.{same-yes}
 use Rattle.laws.specs.Lists.Search.{has-no-find, place-none, place-find}

@@ -1,9 +1,5 @@
 -- Rule 2 as the code finds it: by the length first, then the checks, then the blocks.
-use mathlib.Core.Path.{_≡_}
-use mathlib.Core.Bool.{Bool, true, false, _&&_}
-use Prim.Native.Nat.{_/_}
-use lib.ListN.{length}
-use Rattle.laws.specs.Tests.{_and_}
+use Rattle.laws.specs.Kit.{_≡_, Bool, true, false, _&&_, _/_, length, _and_}
 use Rattle.laws.specs.Lists.{every}
 use Rattle.laws.specs.Cut.{cut}
 use Rattle.laws.specs.Cut.Laws.{cut-length}

@@ -1,6 +1,5 @@
 -- What a sound book says of its length and of n, and the answer from what is found.
-use Rattle.laws.specs.Kit.{_≡_, ap, _∙_, Bool, true, false, _&&_, ℕ, _/_, _≤_, arith, length}
-use Rattle.laws.specs.Tests.{_and_}
+use Rattle.laws.specs.Kit.{_≡_, ap, _∙_, Bool, true, false, _&&_, ℕ, _/_, _≤_, arith, length, _and_}
 use Rattle.laws.specs.Lists.{every}
 use Rattle.laws.specs.Bytes.{part}
 use Rattle.laws.specs.Cut.{cut}

@@ -1,12 +1,7 @@
 -- Counts as the code makes them.
-use mathlib.Core.Path.{_≡_, refl}
-use mathlib.Core.Bool.{Bool, true, false, cond, not}
-use mathlib.Core.List.{List, [], _∷_}
-use Prim.Native.Nat.{ℕ, _+_, _<_}
-use lib.ListN.{length, take, getD}
+use Rattle.laws.specs.Kit.{_≡_, refl, Bool, true, false, cond, not, List, [], _∷_, ℕ, _+_, _<_, length, take, getD, step-byte, step-take}
 use Rattle.laws.specs.Lists.{count}
 use Rattle.laws.specs.Lists.Count.{count-append}
-use Rattle.laws.specs.Loops.{step-byte, step-take}
 
 pub one-unless : (t : Bool) → _≡_ {A = ℕ} (cond (not t) 1 0) (cond t 0 1)
 one-unless true = refl

@@ -1,13 +1,5 @@
 -- Blocks by number, a free block, and the used slots as a part of a book's bytes, as the code finds them.
-use mathlib.Core.Path.{_≡_, refl, sym, ap, _∙_}
-use mathlib.Core.Bool.{Bool, false}
-use mathlib.Core.List.{List, [], _∷_}
-use Prim.Native.Nat.{ℕ, zero, suc, _+_, _-_, _*_, _/_, _≤_, _<_}
-use native.Mathlib.Nat.{add-sub-cancel-left}
-use native.Mathlib.Omega.{arith}
-use lib.ListN.{length, take, drop, getD, List·getD-eq-default, drop-of-length-le}
-use Rattle.laws.specs.Tests.{_and_, is}
-use Rattle.laws.specs.Tests.Laws.{split, is-yes}
+use Rattle.laws.specs.Kit.{_≡_, refl, sym, ap, _∙_, Bool, false, List, [], _∷_, ℕ, zero, suc, _+_, _-_, _*_, _/_, _≤_, _<_, add-sub-cancel-left, arith, length, take, drop, getD, List·getD-eq-default, drop-of-length-le, _and_, is, split, is-yes}
 use Rattle.laws.specs.Lists.{every, until}
 use Rattle.laws.specs.Lists.Keep.{until-take, until-length}
 use Rattle.laws.specs.Bytes.Laws.{number-1}

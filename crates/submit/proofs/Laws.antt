@@ -1,6 +1,5 @@
 -- The book after a submission, by the number of its verdict v.
-use mathlib.Core.Path.{_≡_, sym, ap, _∙_}
-use Rattle.laws.specs.Tests.Laws.{is-equal, is-other}
+use Rattle.laws.specs.Kit.{_≡_, sym, ap, _∙_, is-equal, is-other}
 use Rattle.paper.specs.declared.Verdict.{Verdict}
 use Rattle.paper.specs.Layout.{Bytes}
 use Rattle.paper.specs.Rules.{numberOf, verdict}

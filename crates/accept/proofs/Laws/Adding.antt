@@ -1,14 +1,5 @@
 -- The new blocks: the sender's, where it has no slot yet, then the series that have no place among the sender's stored ones.
-use mathlib.Core.Path.{_≡_, refl, sym, ap, ap₂, _∙_}
-use mathlib.Core.Bool.{Bool}
-use mathlib.Core.List.{List, [], _∷_, _++_, map}
-use Prim.Native.Nat.{ℕ, zero, suc, _+_, _≤_, _<_}
-use native.Mathlib.Numerals.{add-one}
-use native.Mathlib.Omega.{arith}
-use lib.ListN.{length, take, getD, length-append}
-use lib.Seq.{take-suc, take-all}
-use Rattle.laws.specs.Tests.{neg, is}
-use Rattle.laws.specs.Tests.Laws.{split, is-yes, is-no, is-equal, is-other}
+use Rattle.laws.specs.Kit.{_≡_, refl, sym, ap, ap₂, _∙_, Bool, List, [], _∷_, _++_, map, ℕ, zero, suc, _+_, _≤_, _<_, add-one, arith, length, take, getD, length-append, take-suc, take-all, neg, is, split, is-yes, is-no, is-equal, is-other}
 use Rattle.laws.specs.Lists.{place, keep}
 use Rattle.laws.specs.Lists.Each.{map-append}
 use Rattle.laws.specs.Lists.Search.{has-keep-and, place-is-0}

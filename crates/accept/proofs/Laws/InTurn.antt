@@ -1,9 +1,5 @@
 -- The new blocks one after another.
-use mathlib.Core.Path.{_≡_}
-use mathlib.Core.List.{List, [], _++_}
-use Prim.Native.Nat.{ℕ, _+_, _≤_, _<_}
-use native.Mathlib.Omega.{arith}
-use lib.ListN.{length, getD, length-append}
+use Rattle.laws.specs.Kit.{_≡_, List, [], _++_, ℕ, _+_, _≤_, _<_, arith, length, getD, length-append}
 use Rattle.paper.specs.Layout.{Block}
 use Rattle.accept.specs.Steps.{Laid, addedAt, addedTo}
 use Rattle.accept.proofs.Laws.Laying.{laid-then}

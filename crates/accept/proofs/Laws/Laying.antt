@@ -1,10 +1,5 @@
 -- Blocks laid one after another: what is laid in two turns is laid in one, and the blocks before are as they were.
-use mathlib.Core.Path.{_≡_, refl, sym, ap, ap₂, _∙_}
-use mathlib.Core.List.{List, [], _∷_, _++_, append-assoc, append-nil}
-use Prim.Native.Nat.{ℕ, _+_, _≤_, _<_}
-use native.Mathlib.Omega.{arith}
-use lib.ListN.{length, take, set, length-append}
-use lib.Seq.{length-take-le}
+use Rattle.laws.specs.Kit.{_≡_, refl, sym, ap, ap₂, _∙_, List, [], _∷_, _++_, append-assoc, append-nil, ℕ, _+_, _≤_, _<_, arith, length, take, set, length-append, length-take-le}
 use Rattle.laws.specs.InPlace.{over, over-none, over-more, over-take, over-over}
 use Rattle.paper.specs.Layout.{Block}
 use Rattle.accept.specs.Steps.{Laid}

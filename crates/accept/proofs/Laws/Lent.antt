@@ -1,11 +1,5 @@
 -- A part of a list that was lent and is back: one block, or the first blocks.
-use mathlib.Core.Path.{_≡_, sym, ap, ap₂, _∙_}
-use mathlib.Core.List.{List, [], _++_, append-assoc}
-use Prim.Native.Nat.{ℕ, _+_, _-_, _*_, _/_, _≤_, _<_}
-use native.Mathlib.Nat.{add-sub-cancel-left}
-use native.Mathlib.Omega.{arith}
-use lib.ListN.{length, take, drop, getD, set}
-use lib.Seq.{drop-drop}
+use Rattle.laws.specs.Kit.{_≡_, sym, ap, ap₂, _∙_, List, [], _++_, append-assoc, ℕ, _+_, _-_, _*_, _/_, _≤_, _<_, add-sub-cancel-left, arith, length, take, drop, getD, set, drop-drop}
 use Rattle.laws.specs.Bytes.{written}
 use Rattle.laws.specs.Bytes.Laws.{written-take-drop}
 use Rattle.laws.specs.Cut.{cut}

@@ -1,18 +1,8 @@
 -- A mark is worked out from kind, sender's slot, pair and quantities of the blocks, and a mark that is put right changes none of these: so a list
 -- of which some blocks are marked anew gives the same marks, and its links are the same.
-use mathlib.Core.Path.{_≡_, refl, sym, ap, _∙_}
-use mathlib.Core.Bool.{Bool, true, false}
-use mathlib.Core.Option.{Option, none, some, Option·map}
-use mathlib.Core.List.{List, [], _∷_, map}
-use Prim.Native.Nat.{ℕ, zero, suc, _+_, _<_}
-use native.Mathlib.Omega.{arith}
-use lib.ListN.{length, drop, getD, set, length-map, List·getD-map}
-use lib.Seq.{set-getD}
-use Rattle.laws.specs.Tests.{_and_, _or_, neg, is}
-use Rattle.laws.specs.Tests.Laws.{split, is-no}
+use Rattle.laws.specs.Kit.{_≡_, refl, sym, ap, _∙_, Bool, true, false, Option, none, some, Option·map, List, [], _∷_, map, ℕ, zero, suc, _+_, _<_, arith, length, drop, getD, set, length-map, List·getD-map, set-getD, _and_, _or_, neg, is, split, is-no, placeFrom}
 use Rattle.laws.specs.Lists.{same, find, place, has}
 use Rattle.laws.specs.Lists.Search.{has-map, find-map, place-map}
-use Rattle.laws.specs.Loops.{placeFrom}
 use Rattle.laws.specs.InPlace.{done, done-seen, done-next}
 use Rattle.paper.specs.Layout.{Bytes, Block, kind, sendersSlot, pair, quantities, withMark}
 use Rattle.paper.specs.Book.{isSeries, pairIs, isSeriesOfPair}

@@ -1,12 +1,5 @@
 -- A book's slots, of which the phases borrow the first ones: what comes back is what the definition says of all slots.
-use mathlib.Core.Path.{_≡_}
-use mathlib.Core.Bool.{cond}
-use mathlib.Core.List.{List, _++_, map}
-use Prim.Native.Nat.{ℕ, _+_, _*_, _/_, _≤_}
-use native.Mathlib.Omega.{arith}
-use lib.ListN.{length, take, drop, length-append, length-drop}
-use lib.Seq.{length-take-le}
-use Rattle.laws.specs.Tests.{is}
+use Rattle.laws.specs.Kit.{_≡_, cond, List, _++_, map, ℕ, _+_, _*_, _/_, _≤_, arith, length, take, drop, length-append, length-drop, length-take-le, is}
 use Rattle.laws.specs.Lists.{until}
 use Rattle.laws.specs.Lists.Keep.{until-length, until-take}
 use Rattle.laws.specs.Cut.{cut}

@@ -1,14 +1,6 @@
 -- The phases put together, over lists of blocks, are what the definition says that an acceptance writes: the used slots and the new blocks behind
 -- them, the first of these renewed, then all of them marked anew.
-use mathlib.Core.Path.{_≡_, sym, ap, ap₂, _∙_}
-use mathlib.Core.Bool.{cond}
-use mathlib.Core.List.{List, [], _∷_, _++_, map, append-assoc}
-use Prim.Native.Nat.{ℕ, _+_, _≤_}
-use native.Mathlib.Omega.{arith}
-use lib.ListN.{length, take, drop, length-append, length-map}
-use lib.Seq.{take-at, drop-at}
-use Rattle.laws.specs.Tests.{is}
-use Rattle.laws.specs.Tests.Laws.{split, is-equal, is-other}
+use Rattle.laws.specs.Kit.{_≡_, sym, ap, ap₂, _∙_, cond, List, [], _∷_, _++_, map, append-assoc, ℕ, _+_, _≤_, arith, length, take, drop, length-append, length-map, take-at, drop-at, is, split, is-equal, is-other}
 use Rattle.laws.specs.Lists.{has, keep}
 use Rattle.laws.specs.Lists.Search.{has-no-place, place-positive}
 use Rattle.laws.specs.InPlace.{over}

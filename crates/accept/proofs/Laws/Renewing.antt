@@ -1,10 +1,5 @@
 -- One block as an acceptance leaves it, by its number in the message and the answers of the tests that the code makes.
-use mathlib.Core.Path.{_≡_, sym, ap, _∙_}
-use mathlib.Core.Bool.{Bool, true, false}
-use mathlib.Core.List.{List, []}
-use Prim.Native.Nat.{ℕ, _-_, _<_}
-use lib.ListN.{length, getD}
-use Rattle.laws.specs.Tests.{_and_}
+use Rattle.laws.specs.Kit.{_≡_, sym, ap, _∙_, Bool, true, false, List, [], ℕ, _-_, _<_, length, getD, _and_}
 use Rattle.laws.specs.Lists.{place, All}
 use Rattle.laws.specs.Lists.Each.{all-imply}
 use Rattle.laws.specs.Lists.Search.{has-no-find, place-agree, place-none, place-find}

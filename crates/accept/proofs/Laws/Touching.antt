@@ -1,14 +1,6 @@
 -- After an acceptance the sender's series are those of its message. So the other side of a trade is told by its number in the message, which it had
 -- before: a block renewed keeps its pair, and the blocks added are all the sender's.
-use mathlib.Core.Path.{_≡_, sym, ap, _∙_}
-use mathlib.Core.Bool.{true}
-use mathlib.Core.List.{List, [], _++_, map}
-use Prim.Native.Nat.{ℕ, _+_, _-_, _≤_, _<_}
-use native.Mathlib.Omega.{arith}
-use lib.ListN.{length, getD, length-append, length-map, List·getD-append}
-use lib.Seq.{getD-append-add}
-use Rattle.laws.specs.Tests.{neg, is, less}
-use Rattle.laws.specs.Tests.Laws.{split, less-yes, less-no}
+use Rattle.laws.specs.Kit.{_≡_, sym, ap, _∙_, true, List, [], _++_, map, ℕ, _+_, _-_, _≤_, _<_, arith, length, getD, length-append, length-map, List·getD-append, getD-append-add, neg, is, less, split, less-yes, less-no}
 use Rattle.laws.specs.Lists.{place, has}
 use Rattle.laws.specs.Lists.Each.{all-getD-inside, getD-map}
 use Rattle.laws.specs.Lists.Search.{place-is-not-0, has-viewed}

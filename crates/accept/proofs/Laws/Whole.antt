@@ -1,10 +1,5 @@
 -- A book's slots, lent whole, come back as the phases leave them; its day block stays, and nothing stands behind the slots.
-use mathlib.Core.Path.{_≡_, sym, ap, _∙_}
-use mathlib.Core.List.{List, [], _++_, append-assoc, append-nil}
-use Prim.Native.Nat.{ℕ, _+_, _-_, _*_, _/_, _%_, _≤_}
-use native.Mathlib.Omega.{arith}
-use lib.ListN.{length, take, drop, length-take, length-drop, drop-of-length-le}
-use lib.Seq.{drop-drop}
+use Rattle.laws.specs.Kit.{_≡_, sym, ap, _∙_, List, [], _++_, append-assoc, append-nil, ℕ, _+_, _-_, _*_, _/_, _%_, _≤_, arith, length, take, drop, length-take, length-drop, drop-of-length-le, drop-drop}
 use Rattle.laws.specs.Lists.{until}
 use Rattle.laws.specs.Bytes.{number, value}
 use Rattle.laws.specs.Bytes.Laws.{part-take}

@@ -1,6 +1,5 @@
 -- The day block stays, the slots come back as the acceptance leaves them, and nothing stands behind them.
-use Rattle.laws.specs.Kit.{arith}
-use denote.Ref.{now}
+use Rattle.laws.specs.Kit.{arith, now}
 use Rattle.accept.proofs.Laws.Whole.{head-lent, lent-placing, lent-handed, lent-accepted}
 use Rattle.accept.proofs.accept.Statement.{statement}
 use Rattle.accept.proofs.accept.Tie as tie

@@ -1,7 +1,5 @@
 -- The phases put together are what the definition says; each part of the slots that is lent comes back as its phase leaves it.
-use Rattle.laws.specs.Kit.{arith, sym, _∙_, _*_}
-use denote.Ref.{now}
-use lib.Seq.{length-take-le}
+use Rattle.laws.specs.Kit.{arith, sym, _∙_, _*_, now, length-take-le}
 use Rattle.laws.specs.Cut.Laws.{cut-length}
 use Rattle.accept.proofs.Laws.Parts.{back-length, used-fits, series-short, blocks-room, renew-numbers, remark-others, into-is}
 use Rattle.accept.proofs.accept_into.Statement.{statement}

@@ -1,6 +1,5 @@
 -- A sender with no slot gets the one behind the used.
-use Rattle.laws.specs.Kit.{arith}
-use Rattle.laws.specs.Tests.Laws.{is-equal, is-other}
+use Rattle.laws.specs.Kit.{arith, is-equal, is-other}
 use Rattle.accept.proofs.slot_for.Statement.{statement}
 use Rattle.accept.proofs.slot_for.Tie as tie
 

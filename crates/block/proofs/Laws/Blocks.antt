@@ -1,14 +1,5 @@
 -- Turns of the loops over blocks: the test so far and the blocks that are left still give the test of all.
-use mathlib.Core.Path.{_≡_, refl, sym, ap, _∙_}
-use mathlib.Core.Bool.{Bool}
-use mathlib.Core.List.{List, _∷_}
-use Prim.Native.Nat.{ℕ, _+_, _-_, _*_, _≤_, _<_}
-use native.Mathlib.Nat.{mul-zero, mul-one, add-sub-cancel-left}
-use native.Mathlib.Omega.{arith}
-use lib.ListN.{length, take, drop, length-drop}
-use lib.Seq.{drop-drop}
-use Rattle.laws.specs.Tests.{_and_}
-use Rattle.laws.specs.Tests.Laws.{and-true, and-assoc}
+use Rattle.laws.specs.Kit.{_≡_, refl, sym, ap, _∙_, Bool, List, _∷_, ℕ, _+_, _-_, _*_, _≤_, _<_, mul-zero, mul-one, add-sub-cancel-left, arith, length, take, drop, length-drop, drop-drop, _and_, and-true, and-assoc}
 use Rattle.laws.specs.Lists.{every}
 use Rattle.laws.specs.Bytes.{part}
 use Rattle.laws.specs.Bytes.Laws.{part-take}

@@ -1,8 +1,5 @@
 -- The step of the check by sums and a difference that wrap: 31 times a number goes through sums modulo 4,294,967,296.
-use mathlib.Core.Path.{_≡_, sym, ap, _∙_}
-use Prim.Native.Nat.{ℕ, _+_, _-_, _*_, _/_, _%_, _<_}
-use native.Mathlib.Nat.{add-zero, mod-add-mod, add-mod-mod, add-mul, add-mul-mod-self-left}
-use native.Mathlib.Omega.{arith}
+use Rattle.laws.specs.Kit.{_≡_, sym, ap, _∙_, ℕ, _+_, _-_, _*_, _/_, _%_, _<_, add-zero, mod-add-mod, add-mod-mod, add-mul, add-mul-mod-self-left, arith}
 use Rattle.paper.specs.Check.{checkStep}
 
 -- twice k times x, by a sum that wraps

@@ -1,11 +1,5 @@
 -- Turns of the loops over bytes: the check so far and the bytes that are left still give the whole check.
-use mathlib.Core.Path.{_≡_, sym, _∙_}
-use mathlib.Core.List.{List}
-use Prim.Native.Nat.{ℕ, suc, _+_, _≤_}
-use native.Mathlib.Omega.{arith}
-use lib.ListN.{length, take, drop, getD}
-use lib.Seq.{drop-cons, take-take}
-use Rattle.laws.specs.Tests.{is}
+use Rattle.laws.specs.Kit.{_≡_, sym, _∙_, List, ℕ, suc, _+_, _≤_, arith, length, take, drop, getD, drop-cons, take-take, is}
 use Rattle.laws.specs.Bytes.{part, number}
 use Rattle.laws.specs.Bytes.Laws.{part-none, part-add, number-part}
 use Rattle.paper.specs.Check.{checkStep, checkFrom, checkOf, checkRight}

@@ -1,12 +1,5 @@
 -- Turns of a loop that writes a row of bytes over another: what is left to write, over what is written, gives the whole.
-use mathlib.Core.Path.{_≡_, sym, _∙_}
-use mathlib.Core.Logic.{⊎-elim}
-use mathlib.Core.List.{List}
-use Prim.Native.Nat.{ℕ, _+_, _≤_, min}
-use native.Mathlib.Omega.{arith}
-use lib.ListN.{length, drop, set, drop-of-length-le}
-use Rattle.laws.specs.Tests.Laws.{lt-or}
-use Rattle.laws.specs.Loops.{Step}
+use Rattle.laws.specs.Kit.{_≡_, sym, _∙_, ⊎-elim, List, ℕ, _+_, _≤_, min, arith, length, drop, set, drop-of-length-le, lt-or, Step}
 use Rattle.laws.specs.Bytes.{written}
 use Rattle.laws.specs.Bytes.Laws.{written-none, written-cons}
 use Rattle.laws.specs.Slices.{written-past}

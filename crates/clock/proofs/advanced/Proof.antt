@@ -1,6 +1,5 @@
 -- The test is the definition's, and so are the two answers.
-use Rattle.laws.specs.Kit.{sym}
-use Rattle.laws.specs.Tests.{_or_, neg, less}
+use Rattle.laws.specs.Kit.{sym, _or_, neg, less}
 use Rattle.paper.specs.Clock.{advanced}
 use Rattle.clock.proofs.advanced.Statement.{statement}
 use Rattle.clock.proofs.advanced.Tie as tie

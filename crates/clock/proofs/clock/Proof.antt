@@ -1,7 +1,5 @@
 -- Past soundness the answer is the state's own; the clock is written only where that is 0, and over the day block alone.
-use Rattle.laws.specs.Kit.{arith, sym, told, denied}
-use lib.Seq.{length-take-le}
-use denote.Ref.{now}
+use Rattle.laws.specs.Kit.{arith, sym, told, denied, length-take-le, now}
 use Rattle.clock.proofs.Laws.{book-long, clock-unsound, clock-refused, clock-moved}
 use Rattle.clock.proofs.clock.Statement.{statement}
 use Rattle.clock.proofs.clock.Tie as tie

@@ -1,6 +1,5 @@
 -- The table holds each number's code, and past its end no number has one.
-use borrow.Author.Needs.{needs}
-use denote.Ref.{now}
+use Rattle.laws.specs.Kit.{needs, now}
 use Rattle.laws.specs.Table.Laws.{table-at}
 use Rattle.paper.specs.Codes.{reasonCode}
 use Rattle.codes.proofs.Laws.{code-none-above}

@@ -1,7 +1,5 @@
 -- One test over the whole table shows that it holds each number's code.
-use mathlib.Core.Path.{refl}
-use borrow.Author.Needs.{needs}
-use Rattle.laws.specs.Tests.{_and_, is}
+use Rattle.laws.specs.Kit.{refl, needs, _and_, is}
 use Rattle.laws.specs.Table.{tabulates}
 use Rattle.laws.specs.Table.Laws.{table-tested}
 use Rattle.paper.specs.Codes.{table, codeIn, reasonCode}

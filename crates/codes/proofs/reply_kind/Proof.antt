@@ -1,7 +1,5 @@
 -- 1 and 17 are known by number, the mail by the missing code.
-use Rattle.laws.specs.Kit.{sym, _∙_}
-use Rattle.laws.specs.Tests.{_or_, is}
-use Rattle.laws.specs.Tests.Laws.{is-equal, is-other}
+use Rattle.laws.specs.Kit.{sym, _∙_, _or_, is, is-equal, is-other}
 use Rattle.paper.specs.Codes.{replyKind}
 use Rattle.codes.proofs.reply_kind.Statement.{statement}
 use Rattle.codes.proofs.reply_kind.Tie as tie

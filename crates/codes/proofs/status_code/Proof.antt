@@ -1,6 +1,5 @@
 -- The acceptance, a refusal without a code, one with a code.
-use Rattle.laws.specs.Kit.{sym, _∙_}
-use Rattle.laws.specs.Tests.Laws.{is-equal, is-other}
+use Rattle.laws.specs.Kit.{sym, _∙_, is-equal, is-other}
 use Rattle.paper.specs.Codes.{statusCode}
 use Rattle.codes.proofs.status_code.Statement.{statement}
 use Rattle.codes.proofs.status_code.Tie as tie

@@ -1,7 +1,6 @@
 -- The table and the page are the definition's, and hold.
-use Rattle.laws.specs.Kit.{needs, ap, _∙_, refl}
+use Rattle.laws.specs.Kit.{needs, ap, _∙_, refl, _and_}
 use Rattle.laws.specs.Base.{ap₂}
-use Rattle.laws.specs.Tests.{_and_}
 use Rattle.laws.specs.Lists.{same}
 use Rattle.paper.specs.Listing.{text}
 use Rattle.cases_site.specs.Site.{shown, rightWithPage}

@@ -1,6 +1,5 @@
 -- The answer, and the newline of a refusal, else the series and its quantities.
-use Rattle.laws.specs.Kit.{needs, arith}
-use Rattle.laws.specs.Tests.Laws.{is-equal, is-other}
+use Rattle.laws.specs.Kit.{needs, arith, is-equal, is-other}
 use Rattle.paper.specs.Listing.{text}
 use Rattle.desk_lines.specs.Lines.{telling, blockLine}
 use Rattle.desk_text.specs.Put.Laws.{then}

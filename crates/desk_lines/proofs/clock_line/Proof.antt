@@ -1,6 +1,5 @@
 -- The answer, and the newline on 1, else the day's state.
-use Rattle.laws.specs.Kit.{arith}
-use Rattle.laws.specs.Tests.Laws.{is-equal, is-other}
+use Rattle.laws.specs.Kit.{arith, is-equal, is-other}
 use Rattle.paper.specs.Listing.{text}
 use Rattle.desk_lines.specs.Lines.{clockLine}
 use Rattle.desk_text.specs.Put.Laws.{then}

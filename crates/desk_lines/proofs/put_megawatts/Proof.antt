@@ -1,6 +1,5 @@
 -- What printing put into the eight bytes, up to the length that it answered, is the quantity's text.
-use Rattle.laws.specs.Kit.{arith, _∙_, refl}
-use lib.ListN.{replicate}
+use Rattle.laws.specs.Kit.{arith, _∙_, refl, replicate}
 use Rattle.desk_text.specs.Put.Laws.{called}
 use Rattle.desk_lines.proofs.Laws.{printed-part}
 use Rattle.desk_lines.proofs.put_megawatts.Statement.{statement}

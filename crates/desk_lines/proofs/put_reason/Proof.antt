@@ -1,6 +1,5 @@
 -- Nothing, or the colon and then the words.
-use Rattle.laws.specs.Kit.{arith, refl}
-use Rattle.laws.specs.Tests.Laws.{is-equal, is-other}
+use Rattle.laws.specs.Kit.{arith, refl, is-equal, is-other}
 use Rattle.paper.specs.Listing.{text}
 use Rattle.desk_lines.specs.Lines.{reason}
 use Rattle.desk_text.specs.Put.Laws.{then}

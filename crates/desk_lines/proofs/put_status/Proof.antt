@@ -1,6 +1,5 @@
 -- The code asks the definition's question.
-use Rattle.laws.specs.Kit.{arith, refl}
-use Rattle.laws.specs.Tests.Laws.{is-equal, is-other}
+use Rattle.laws.specs.Kit.{arith, refl, is-equal, is-other}
 use Rattle.paper.specs.Listing.{text}
 use Rattle.desk_lines.specs.Lines.{status}
 use Rattle.desk_lines.proofs.put_status.Statement.{statement}

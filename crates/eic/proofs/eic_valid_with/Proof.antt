@@ -1,9 +1,5 @@
 -- The code is the check by the sum, in which 0 stands for a character without value too.
-use Rattle.laws.specs.Kit.{sym, _∙_, arith, needs}
-use lib.ListN.{length-take}
-use denote.Ref.{now}
-use Rattle.laws.specs.Tests.{_and_, neg, is}
-use Rattle.laws.specs.Tests.Laws.{is-other}
+use Rattle.laws.specs.Kit.{sym, _∙_, arith, needs, length-take, now, _and_, neg, is, is-other}
 use Rattle.paper.specs.Eic.{eicValid}
 use Rattle.eic.proofs.Laws.{valid-by-sum}
 use Rattle.eic.proofs.eic_valid_with.Statement.{statement}

@@ -1,6 +1,5 @@
 -- One test over the whole table shows that it holds each character's value.
-use Rattle.laws.specs.Kit.{refl}
-use Rattle.laws.specs.Tests.{_and_, is, upto}
+use Rattle.laws.specs.Kit.{refl, _and_, is, upto}
 use Rattle.laws.specs.Table.{tabulates}
 use Rattle.laws.specs.Table.Laws.{table-tested}
 use Rattle.paper.specs.Ids.{digit, letter, hyphen}

@@ -1,15 +1,5 @@
 -- A part that C is handed has the bytes which the paper's definition gives: block k of a buffer is block k − 1 of those behind its first.
-use mathlib.Core.Path.{_≡_, refl, sym, ap, _∙_}
-use mathlib.Core.Logic.{_⊎_, inl, inr}
-use mathlib.Core.Bool.{Bool, true, false}
-use mathlib.Core.Option.{Option·getD}
-use mathlib.Core.List.{List, [], _∷_}
-use Prim.Native.Nat.{ℕ, zero, suc, _*_, _/_, _≤_, _<_}
-use native.Mathlib.Omega.{arith}
-use lib.ListN.{length, drop, getD, List·getD-eq-default}
-use lib.Seq.{getD-take}
-use Rattle.laws.specs.Tests.{_or_}
-use Rattle.laws.specs.Tests.Laws.{is-equal, is-other, upto-true, upto-false, lt-or}
+use Rattle.laws.specs.Kit.{_≡_, refl, sym, ap, _∙_, _⊎_, inl, inr, Bool, true, false, Option·getD, List, [], _∷_, ℕ, zero, suc, _*_, _/_, _≤_, _<_, arith, length, drop, getD, List·getD-eq-default, getD-take, _or_, is-equal, is-other, upto-true, upto-false, lt-or}
 use Rattle.laws.specs.Lists.{nth, place, until}
 use Rattle.laws.specs.Lists.Search.{nth-place, place-length}
 use Rattle.laws.specs.Lists.Keep.{until-take}

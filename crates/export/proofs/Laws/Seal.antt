@@ -1,7 +1,6 @@
 -- One test of the length decides both, the answer and the bytes.
 use Rattle.laws.specs.Base.{_≡_, sym, true, false, length}
-use Rattle.laws.specs.Tests.{is}
-use Rattle.laws.specs.Tests.Laws.{is-equal, is-other}
+use Rattle.laws.specs.Kit.{is, is-equal, is-other}
 use Rattle.paper.specs.Layout.{Bytes}
 use Rattle.paper.specs.Check.{sealed}
 use Rattle.export.specs.Seal.{isOneBlock, sealedBlock}

@@ -1,8 +1,6 @@
 -- Whether the largest so far is 0, with the test of the bytes left, is the test of all.
-use Rattle.laws.specs.Kit.{needs, arith, _≡_, _≤_, _-_, refl, length, drop, step-byte, end-list}
-use Rattle.laws.specs.Tests.{_and_, is}
+use Rattle.laws.specs.Kit.{needs, arith, _≡_, _≤_, _-_, refl, length, drop, step-byte, end-list, _and_, is, every-start, every-go, every-end}
 use Rattle.laws.specs.Lists.{every}
-use Rattle.laws.specs.Loops.{every-start, every-go, every-end}
 use Rattle.paper.specs.Layout.{zeros}
 use Rattle.field.proofs.all_zero.Statement.{statement}
 use Rattle.field.proofs.all_zero.Tie as tie

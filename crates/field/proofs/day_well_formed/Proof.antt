@@ -1,6 +1,5 @@
 -- The two tests are joined as the definition joins them.
-use Rattle.laws.specs.Kit.{needs}
-use Rattle.laws.specs.Tests.{_and_, is}
+use Rattle.laws.specs.Kit.{needs, _and_, is}
 use Rattle.paper.specs.Ids.{dayWellFormed}
 use Rattle.field.proofs.day_well_formed.Statement.{statement}
 use Rattle.field.proofs.day_well_formed.Tie as tie

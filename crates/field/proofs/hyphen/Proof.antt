@@ -1,6 +1,5 @@
 -- The code is the definition, word for word.
-use Rattle.laws.specs.Kit.{refl}
-use Rattle.laws.specs.Tests.{is}
+use Rattle.laws.specs.Kit.{refl, is}
 use Rattle.paper.specs.Ids.{hyphen}
 use Rattle.field.proofs.hyphen.Statement.{statement}
 use Rattle.field.proofs.hyphen.Tie as tie

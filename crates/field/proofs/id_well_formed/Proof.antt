@@ -1,8 +1,5 @@
 -- The field is cut where its text ends: the characters stand before, the zero bytes behind.
-use Rattle.laws.specs.Kit.{arith, sym, ap, _∙_}
-use lib.Seq.{length-take-le}
-use denote.Ref.{now}
-use Rattle.laws.specs.Tests.{_and_, is, upto}
+use Rattle.laws.specs.Kit.{arith, sym, ap, _∙_, length-take-le, now, _and_, is, upto}
 use Rattle.laws.specs.Lists.{every}
 use Rattle.laws.specs.Lists.Keep.{until-take}
 use Rattle.paper.specs.Layout.{zeros}

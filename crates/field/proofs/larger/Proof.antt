@@ -1,7 +1,5 @@
 -- The larger of two is 0 exactly where both are.
-use Rattle.laws.specs.Kit.{arith, _≡_, sym, ℕ, _<_, _≤_}
-use Rattle.laws.specs.Tests.{_and_, is}
-use Rattle.laws.specs.Tests.Laws.{split, is-equal, is-other, is-yes}
+use Rattle.laws.specs.Kit.{arith, _≡_, sym, ℕ, _<_, _≤_, _and_, is, split, is-equal, is-other, is-yes}
 use Rattle.field.proofs.larger.Statement.{statement}
 use Rattle.field.proofs.larger.Tie as tie
 

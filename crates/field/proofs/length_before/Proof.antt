@@ -1,8 +1,5 @@
 -- None of the bytes passed is x, so that what stands before the first is as long as these and what stands before it in the rest.
-use Rattle.laws.specs.Kit.{needs, arith, _≡_, _≤_, _-_, _+_, length, drop, step-byte, end-list}
-use Rattle.laws.specs.Tests.Laws.{is-equal, is-other}
-use Rattle.laws.specs.Loops.{until-rest-start, until-rest-go, until-rest-hit, until-rest-end}
-use Rattle.laws.specs.Tests.{is}
+use Rattle.laws.specs.Kit.{needs, arith, _≡_, _≤_, _-_, _+_, length, drop, step-byte, end-list, is-equal, is-other, until-rest-start, until-rest-go, until-rest-hit, until-rest-end, is}
 use Rattle.laws.specs.Lists.{until}
 use Rattle.field.proofs.length_before.Statement.{statement}
 use Rattle.field.proofs.length_before.Tie as tie

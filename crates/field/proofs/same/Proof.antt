@@ -1,9 +1,6 @@
 -- Each sixteen passed were the same, so that what is left decides; the first sixteen that differ decide at once.
-use Rattle.laws.specs.Kit.{_≡_, sym, _∙_, _≤_, _-_, arith, length, drop, needs}
-use lib.ListN.{length-take, length-drop}
+use Rattle.laws.specs.Kit.{_≡_, sym, _∙_, _≤_, _-_, arith, length, drop, needs, length-take, length-drop, _and_, and-no-left}
 use borrow.Author.Tests.{not-true, not-false}
-use Rattle.laws.specs.Tests.{_and_}
-use Rattle.laws.specs.Tests.Laws.{and-no-left}
 use Rattle.laws.specs.Lists.{same}
 use Rattle.laws.specs.Lists.Same.{same-length-other}
 use Rattle.laws.specs.Slices.{same-slice, rest-slice}

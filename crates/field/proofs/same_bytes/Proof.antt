@@ -1,8 +1,6 @@
 -- What is found so far, with the comparison of the bytes left, is the comparison of all.
-use Rattle.laws.specs.Kit.{needs, arith, _≡_, refl, _≤_, _-_, length, drop, step-byte, end-list}
-use Rattle.laws.specs.Tests.{_and_}
+use Rattle.laws.specs.Kit.{needs, arith, _≡_, refl, _≤_, _-_, length, drop, step-byte, end-list, _and_, same-start, same-go, same-end}
 use Rattle.laws.specs.Lists.{same}
-use Rattle.laws.specs.Loops.{same-start, same-go, same-end}
 use Rattle.field.proofs.same_bytes.Statement.{statement}
 use Rattle.field.proofs.same_bytes.Tie as tie
 

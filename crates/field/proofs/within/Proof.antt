@@ -1,7 +1,5 @@
 -- As many bytes as there are, or fewer, can be taken.
-use Rattle.laws.specs.Kit.{arith, sym}
-use lib.Seq.{length-take-le}
-use denote.Ref.{now}
+use Rattle.laws.specs.Kit.{arith, sym, length-take-le, now}
 use Rattle.field.proofs.within.Statement.{statement}
 use Rattle.field.proofs.within.Tie as tie
 

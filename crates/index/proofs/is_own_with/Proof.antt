@@ -1,6 +1,5 @@
 -- Both tests, as in the definition.
-use Rattle.laws.specs.Kit.{needs}
-use Rattle.laws.specs.Tests.{_and_}
+use Rattle.laws.specs.Kit.{needs, _and_}
 use Rattle.index.specs.Linked.{ownWith}
 use Rattle.index.proofs.is_own_with.Statement.{statement}
 use Rattle.index.proofs.is_own_with.Tie as tie

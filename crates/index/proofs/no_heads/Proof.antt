@@ -1,6 +1,5 @@
 -- All entries are 0.
-use Rattle.laws.specs.Kit.{refl}
-use Rattle.laws.specs.Tests.{_and_, is}
+use Rattle.laws.specs.Kit.{refl, _and_, is}
 use Rattle.laws.specs.Lists.{every}
 use Rattle.paper.specs.Layout.{zeros}
 use Rattle.index.proofs.no_heads.Statement.{statement}

@@ -1,7 +1,5 @@
 -- The verdict past rules 1 and 2, part by part: the sender's stored blocks are found by its slot among the used slots.
-use mathlib.Core.Path.{_≡_, _∙_}
-use mathlib.Core.List.{List}
-use Prim.Native.Nat.{ℕ}
+use Rattle.laws.specs.Kit.{_≡_, _∙_, List, ℕ}
 use Rattle.paper.specs.declared.Verdict.{Verdict}
 use Rattle.paper.specs.Layout.{Bytes, Block, sender}
 use Rattle.paper.specs.Book.{numbered, slotOf, ownSender, ownSeries}

@@ -1,10 +1,5 @@
 -- Laws of the order of checks: one verdict before another, and rule 14 position by position.
-use mathlib.Core.Path.{_≡_, refl, sym, ap, ap₂, _∙_}
-use mathlib.Core.Bool.{Bool, false}
-use Prim.Native.Nat.{ℕ, zero, suc, _+_, _-_, _≤_}
-use native.Mathlib.Omega.{arith}
-use Rattle.laws.specs.Tests.{_and_}
-use Rattle.laws.specs.Tests.Laws.{neg-no, neg-false, upto-yes, upto-true}
+use Rattle.laws.specs.Kit.{_≡_, refl, sym, ap, ap₂, _∙_, Bool, false, ℕ, zero, suc, _+_, _-_, _≤_, arith, _and_, neg-no, neg-false, upto-yes, upto-true}
 use Rattle.laws.specs.Order.{along}
 use Rattle.laws.specs.Order.Laws.{first-on, first-stop, along-agree}
 use Rattle.paper.specs.declared.Verdict.{Verdict}

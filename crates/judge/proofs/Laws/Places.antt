@@ -1,13 +1,5 @@
 -- What is stored of a series, and rules 16 and 17, by places: where the searches found what they promise, these are the paper's rules.
-use mathlib.Core.Path.{_≡_, sym, ap, _∙_}
-use mathlib.Core.Bool.{true, cond}
-use mathlib.Core.Option.{Option·getD}
-use mathlib.Core.List.{List, []}
-use Prim.Native.Nat.{ℕ, _+_, _/_, _≤_, _<_}
-use native.Mathlib.Omega.{arith}
-use lib.ListN.{length, take, getD}
-use lib.Seq.{take-all}
-use Rattle.laws.specs.Tests.{_and_, neg, is, less}
+use Rattle.laws.specs.Kit.{_≡_, sym, ap, _∙_, true, cond, Option·getD, List, [], ℕ, _+_, _/_, _≤_, _<_, arith, length, take, getD, take-all, _and_, neg, is, less}
 use Rattle.laws.specs.Lists.{same, place, has, count, keep}
 use Rattle.laws.specs.Lists.Each.{all-imply, all-each, take-as-map}
 use Rattle.laws.specs.Lists.Search.{has-agree, has-take-below, has-keep-and, find-keep-and, place-is-0}

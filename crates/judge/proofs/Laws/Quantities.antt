@@ -1,10 +1,5 @@
 -- Quantities within their ranges break none of rules 11 to 13, at any position.
-use mathlib.Core.Path.{_≡_, refl, sym, ap, _∙_}
-use mathlib.Core.Bool.{Bool, true, false}
-use Prim.Native.Nat.{ℕ, zero, suc, _+_, _-_, _*_, _≤_, _<_}
-use native.Mathlib.Omega.{arith}
-use Rattle.laws.specs.Tests.{_and_, neg, is, less, upto, below}
-use Rattle.laws.specs.Tests.Laws.{split, and-left, and-right, and-no-left, and-no-right, neg-false, is-equal, less-yes, less-no, less-false, upto-yes, upto-false}
+use Rattle.laws.specs.Kit.{_≡_, refl, sym, ap, _∙_, Bool, true, false, ℕ, zero, suc, _+_, _-_, _*_, _≤_, _<_, arith, _and_, neg, is, less, upto, below, split, and-left, and-right, and-no-left, and-no-right, neg-false, is-equal, less-yes, less-no, less-false, upto-yes, upto-false}
 use Rattle.laws.specs.Bytes.{part, number}
 use Rattle.laws.specs.Bytes.Laws.{number-part}
 use Rattle.laws.specs.Order.{along}

@@ -1,13 +1,6 @@
 -- Rule 7's clauses on other series, by places: the first series of the message with an id or a pair is an has-take-place one; the sender's stored
 -- series with the id is not the one with the pair.
-use mathlib.Core.Path.{_≡_, refl, sym, ap, ap₂, _∙_}
-use mathlib.Core.Bool.{Bool, true, false}
-use mathlib.Core.List.{List, []}
-use Prim.Native.Nat.{ℕ, _+_, _<_}
-use native.Mathlib.Numerals.{add-one}
-use lib.ListN.{length, take, getD}
-use Rattle.laws.specs.Tests.{_and_, _or_, neg, is}
-use Rattle.laws.specs.Tests.Laws.{split, and-left, and-right, and-both, or-yes-left, or-yes-right, or-else, is-equal}
+use Rattle.laws.specs.Kit.{_≡_, refl, sym, ap, ap₂, _∙_, Bool, true, false, List, [], ℕ, _+_, _<_, add-one, length, take, getD, _and_, _or_, neg, is, split, and-left, and-right, and-both, or-yes-left, or-yes-right, or-else, is-equal}
 use Rattle.laws.specs.Lists.{same, place, has, apart, keep}
 use Rattle.laws.specs.Lists.Same.{same-yes, same-refl}
 use Rattle.laws.specs.Lists.Each.{all-imply, all-take, all-getD-inside}

@@ -1,14 +1,8 @@
 -- Rules 7 to 15, series by series: those passed by are what is seen of the message, and none of them is refused.
-use mathlib.Core.Path.{_≡_, refl, sym, ap, _∙_}
-use mathlib.Core.Bool.{Bool}
-use mathlib.Core.List.{List, []}
-use Prim.Native.Nat.{ℕ, _+_, _/_, _≤_, _<_}
-use native.Mathlib.Omega.{arith}
-use lib.ListN.{length, take, drop, getD}
+use Rattle.laws.specs.Kit.{_≡_, refl, sym, ap, _∙_, Bool, List, [], ℕ, _+_, _/_, _≤_, _<_, arith, length, take, drop, getD, Step, End, step-cut-at, step-take, end-cut}
 use Rattle.laws.specs.Lists.{keep}
 use Rattle.laws.specs.Cut.{cut}
 use Rattle.laws.specs.Cut.Laws.{cut-length}
-use Rattle.laws.specs.Loops.{Step, End, step-cut-at, step-take, end-cut}
 use Rattle.paper.specs.declared.Verdict.{Verdict}
 use Rattle.paper.specs.Layout.{Bytes, Block}
 use Rattle.paper.specs.Book.{numbered, isSeriesOf}

@@ -1,11 +1,5 @@
 -- The verdict on a book and a message, by the parts that the code takes of them.
-use mathlib.Core.Path.{_≡_, refl, sym, ap, ap₂, _∙_}
-use mathlib.Core.Bool.{Bool, true, false}
-use mathlib.Core.List.{List}
-use Prim.Native.Nat.{ℕ, suc, _-_, _/_, _<_}
-use native.Mathlib.Omega.{arith}
-use lib.ListN.{length}
-use Rattle.laws.specs.Tests.Laws.{neg-no, neg-true, neg-false}
+use Rattle.laws.specs.Kit.{_≡_, refl, sym, ap, ap₂, _∙_, Bool, true, false, List, ℕ, suc, _-_, _/_, _<_, arith, length, neg-no, neg-true, neg-false}
 use Rattle.laws.specs.Lists.Keep.{count-until}
 use Rattle.laws.specs.Cut.{cut}
 use Rattle.laws.specs.Cut.Laws.{cut-length}

@@ -1,6 +1,5 @@
 -- Rules 1 and 2 come first; past them the book's slots are the used ones and the free ones behind.
-use Rattle.laws.specs.Kit.{_∙_, ap, arith, denied, sym, told}
-use denote.Ref.{now}
+use Rattle.laws.specs.Kit.{_∙_, ap, arith, denied, sym, told, now}
 use Rattle.laws.specs.Bytes.{part}
 use Rattle.paper.specs.Layout.{sender}
 use Rattle.paper.specs.Book.{dayBlock, slotOf}

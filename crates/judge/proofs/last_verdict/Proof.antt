@@ -1,6 +1,5 @@
 -- Rule 17 is judged only past rule 16.
-use Rattle.laws.specs.Kit.{_∙_, refl, sym}
-use denote.Ref.{now}
+use Rattle.laws.specs.Kit.{_∙_, refl, sym, now}
 use Rattle.laws.specs.Cut.Laws.{cut-length}
 use Rattle.paper.specs.Rules.{lastVerdict}
 use Rattle.judge.specs.Order.{lastVerdictOf}

@@ -1,17 +1,10 @@
 -- The words of a line by the names of their definitions, and the lines one after another.
-use mathlib.Core.Path.{_≡_, sym, ap, _∙_}
-use mathlib.Core.Bool.{true, false, cond}
-use mathlib.Core.List.{List, [], _∷_, _++_}
-use Prim.Native.Nat.{ℕ, suc, _+_, _<_}
-use native.Mathlib.Nat.{add-zero}
-use native.Mathlib.Omega.{arith}
+use Rattle.laws.specs.Kit.{_≡_, sym, ap, _∙_, true, false, cond, List, [], _∷_, _++_, ℕ, suc, _+_, _<_, add-zero, arith, length, drop, getD, Step, End}
 use mir.Syntax.{w8}
 use mir.Val.{Fits}
-use lib.ListN.{length, drop, getD}
 use Rattle.laws.specs.Lists.{All}
 use Rattle.laws.specs.Bytes.{written}
 use Rattle.laws.specs.Bytes.Laws.{number-small, written-none}
-use Rattle.laws.specs.Loops.{Step, End}
 use Rattle.paper.specs.Layout.{Bytes, Block, first, partner}
 use Rattle.paper.specs.Book.{isSeries}
 use Rattle.paper.specs.QuantityText.{decimal}

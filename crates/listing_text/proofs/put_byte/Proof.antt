@@ -1,6 +1,5 @@
 -- A byte past the end changes nothing, in the definition and in the code.
-use Rattle.laws.specs.Kit.{needs, arith, sym}
-use lib.Seq.{set-out}
+use Rattle.laws.specs.Kit.{needs, arith, sym, set-out}
 use Rattle.listing_text.proofs.put_byte.Statement.{statement}
 use Rattle.listing_text.proofs.put_byte.Tie as tie
 

@@ -1,6 +1,5 @@
 -- The place behind the text is its length, whatever the buffer.
-use Rattle.laws.specs.Kit.{needs, arith, _∙_}
-use native.Mathlib.Nat.{zero-add}
+use Rattle.laws.specs.Kit.{needs, arith, _∙_, zero-add}
 use Rattle.listing_text.proofs.Laws.Whole.{too-short, room-enough}
 use Rattle.listing_text.proofs.put_listing_if_room.Statement.{statement}
 use Rattle.listing_text.proofs.put_listing_if_room.Tie as tie

@@ -1,7 +1,5 @@
 -- The first of the three tests that fails decides; past two that hold, the third does.
-use Rattle.laws.specs.Kit.{sym, _∙_, told, denied}
-use Rattle.laws.specs.Tests.{_and_, neg}
-use Rattle.laws.specs.Tests.Laws.{is-equal, is-other}
+use Rattle.laws.specs.Kit.{sym, _∙_, told, denied, _and_, neg, is-equal, is-other}
 use Rattle.paper.specs.Marks.{isCounterpart}
 use Rattle.marks.proofs.is_counterpart.Statement.{statement}
 use Rattle.marks.proofs.is_counterpart.Tie as tie

@@ -1,6 +1,5 @@
 -- No series passes; a series passes if its mark has the bytes of the mark worked out afresh.
-use Rattle.laws.specs.Kit.{needs, arith, told, denied}
-use Rattle.laws.specs.Tests.{_or_, neg}
+use Rattle.laws.specs.Kit.{needs, arith, told, denied, _or_, neg}
 use Rattle.paper.specs.PlainRun.{markTrue}
 use Rattle.marks.proofs.mark_true.Statement.{statement}
 use Rattle.marks.proofs.mark_true.Tie as tie

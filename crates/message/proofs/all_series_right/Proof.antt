@@ -1,9 +1,7 @@
 -- What is found so far, with the test of the series left, is the test of all.
-use Rattle.laws.specs.Kit.{_-_, _/_, _≡_, _≤_, arith, drop, end-cut, length, step-cut-at}
+use Rattle.laws.specs.Kit.{_-_, _/_, _≡_, _≤_, arith, drop, end-cut, length, step-cut-at, every-end, every-go, every-start, _and_}
 use Rattle.laws.specs.Cut.{cut}
 use Rattle.laws.specs.Lists.{every}
-use Rattle.laws.specs.Loops.{every-end, every-go, every-start}
-use Rattle.laws.specs.Tests.{_and_}
 use Rattle.paper.specs.Message.{seriesRight}
 use Rattle.message.proofs.all_series_right.Statement.{statement}
 use Rattle.message.proofs.all_series_right.Tie as tie

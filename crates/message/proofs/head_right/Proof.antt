@@ -1,6 +1,5 @@
 -- The three tests are joined as the definition joins them.
-use Rattle.laws.specs.Kit.{arith}
-use Rattle.laws.specs.Tests.{_and_, is}
+use Rattle.laws.specs.Kit.{arith, _and_, is}
 use Rattle.paper.specs.Message.{headRight}
 use Rattle.message.proofs.head_right.Statement.{statement}
 use Rattle.message.proofs.head_right.Tie as tie

@@ -1,6 +1,5 @@
 -- Rule 2 is broken where the message is not right.
-use Rattle.laws.specs.Kit.{ap, not}
-use Rattle.laws.specs.Tests.{neg}
+use Rattle.laws.specs.Kit.{ap, not, neg}
 use Rattle.paper.specs.Message.{rule2}
 use Rattle.message.proofs.rule_2.Statement.{statement}
 use Rattle.message.proofs.rule_2.Tie as tie

@@ -1,11 +1,5 @@
 -- A field as long as a block, quantities written one after the other, and what the tests of positions say.
-use mathlib.Core.Path.{_≡_, refl, sym, ap, _∙_}
-use mathlib.Core.Bool.{true, false}
-use Prim.Native.Nat.{ℕ, zero, suc, _+_, _-_, _≤_, _<_}
-use native.Mathlib.Omega.{arith}
-use lib.ListN.{length, drop}
-use Rattle.laws.specs.Tests.{_and_, is, less, upto}
-use Rattle.laws.specs.Tests.Laws.{and-both, and-no-left, and-no-right, is-equal, is-other}
+use Rattle.laws.specs.Kit.{_≡_, refl, sym, ap, _∙_, true, false, ℕ, zero, suc, _+_, _-_, _≤_, _<_, arith, length, drop, _and_, is, less, upto, and-both, and-no-left, and-no-right, is-equal, is-other}
 use Rattle.laws.specs.Bytes.{written, number}
 use Rattle.laws.specs.Bytes.Laws.{written-all}
 use Rattle.paper.specs.Layout.{Bytes, Block}

@@ -1,14 +1,5 @@
 -- A block of the message lent and back, a series begun, and the lines of a text one after the other.
-use mathlib.Core.Path.{_≡_, refl, sym, ap, _∙_}
-use mathlib.Core.Bool.{Bool, true, false}
-use mathlib.Core.List.{List, [], _∷_, _++_}
-use Prim.Native.Nat.{ℕ, _+_, _-_, _*_, _≤_, _<_}
-use native.Mathlib.Nat.{add-sub-cancel-left}
-use native.Mathlib.Omega.{arith}
-use lib.ListN.{length, take, drop}
-use lib.Seq.{drop-drop}
-use Rattle.laws.specs.Tests.{_and_, less, upto}
-use Rattle.laws.specs.Tests.Laws.{and-both, and-no-left, and-no-right, less-true, less-false, upto-true, upto-false}
+use Rattle.laws.specs.Kit.{_≡_, refl, sym, ap, _∙_, Bool, true, false, List, [], _∷_, _++_, ℕ, _+_, _-_, _*_, _≤_, _<_, add-sub-cancel-left, arith, length, take, drop, drop-drop, _and_, less, upto, and-both, and-no-left, and-no-right, less-true, less-false, upto-true, upto-false}
 use Rattle.laws.specs.Bytes.{part}
 use Rattle.laws.specs.Slices.{part-slice}
 use Rattle.paper.specs.Check.{sealed}

@@ -1,12 +1,5 @@
 -- What a text is answered does not depend on what stands in the buffer.
-use mathlib.Core.Path.{_≡_, refl, sym, ap, _∙_}
-use mathlib.Core.Bool.{Bool, true, false}
-use mathlib.Core.List.{List, [], _∷_, _++_}
-use Prim.Native.Nat.{ℕ, _+_, _*_, _≤_, _<_}
-use native.Mathlib.Omega.{arith}
-use lib.ListN.{length, drop, length-append, length-drop}
-use Rattle.laws.specs.Tests.{_and_, is, less, upto}
-use Rattle.laws.specs.Tests.Laws.{split, and-both, less-true, less-false, upto-true, is-equal, is-other}
+use Rattle.laws.specs.Kit.{_≡_, refl, sym, ap, _∙_, Bool, true, false, List, [], _∷_, _++_, ℕ, _+_, _*_, _≤_, _<_, arith, length, drop, length-append, length-drop, _and_, is, less, upto, split, and-both, less-true, less-false, upto-true, is-equal, is-other}
 use Rattle.laws.specs.Lists.{same}
 use Rattle.paper.specs.Check.{sealed}
 use Rattle.paper.specs.Layout.{Bytes, Block}

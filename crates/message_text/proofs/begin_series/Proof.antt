@@ -1,8 +1,5 @@
 -- Where there is room the sender's block counts the series, then the series' block is written behind the others; otherwise nothing is.
-use Rattle.laws.specs.Kit.{needs, arith, sym, _≤_, length}
-use lib.Seq.{length-take-le}
-use denote.Ref.{now}
-use Rattle.laws.specs.Tests.{upto}
+use Rattle.laws.specs.Kit.{needs, arith, sym, _≤_, length, length-take-le, now, upto}
 use Rattle.message_text.proofs.Laws.Lines.{begun-many, begun-short, begun-fits}
 use Rattle.message_text.proofs.begin_series.Statement.{statement}
 use Rattle.message_text.proofs.begin_series.Tie as tie

@@ -1,6 +1,5 @@
 -- The last block is lent and back; before and behind it the message stays.
-use Rattle.laws.specs.Kit.{needs, arith}
-use denote.Ref.{now}
+use Rattle.laws.specs.Kit.{needs, arith, now}
 use Rattle.message_text.proofs.Laws.Lines.{field-back}
 use Rattle.message_text.proofs.lay_field.Statement.{statement}
 use Rattle.message_text.proofs.lay_field.Tie as tie

@@ -1,8 +1,5 @@
 -- The text is read, then the sender's block is begun and the lines are laid; a wrong line leaves the buffer alone.
-use Rattle.laws.specs.Kit.{needs, arith, sym, _∙_, _≤_, length}
-use lib.Seq.{length-take-le}
-use denote.Ref.{now}
-use Rattle.laws.specs.Tests.Laws.{less-true}
+use Rattle.laws.specs.Kit.{needs, arith, sym, _∙_, _≤_, length, length-take-le, now, less-true}
 use Rattle.message_text.specs.MessageText.{messageText}
 use Rattle.message_text.proofs.Laws.Read.{text-wrong, text-right}
 use Rattle.message_text.proofs.message_from_text.Statement.{statement}

@@ -1,7 +1,5 @@
 -- What the lines ahead are answered behind those passed is what all lines are answered.
-use Rattle.laws.specs.Kit.{needs, arith, _≡_, refl, true, [], _≤_, _<_, _-_, length, drop, denied, told}
-use lib.ListN.{length-drop}
-use denote.Ref.{now}
+use Rattle.laws.specs.Kit.{needs, arith, _≡_, refl, true, [], _≤_, _<_, _-_, length, drop, denied, told, length-drop, now}
 use Rattle.message_words.specs.Words.{lines}
 use Rattle.message_text.specs.MessageText.{laid, withLines}
 use Rattle.message_text.proofs.Laws.Read.{read-on, read-end, read-stop}

@@ -1,6 +1,5 @@
 -- The code asks the definition's questions in its order.
-use Rattle.laws.specs.Kit.{needs, arith, [], _<_, _+_, _*_}
-use Rattle.laws.specs.Tests.{upto}
+use Rattle.laws.specs.Kit.{needs, arith, [], _<_, _+_, _*_, upto}
 use Rattle.message_text.proofs.Laws.Lines.{begun-many, begun-short}
 use Rattle.message_text.proofs.Laws.Read.{begun-read}
 use Rattle.message_text.proofs.series_read.Statement.{statement}

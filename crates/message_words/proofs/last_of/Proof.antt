@@ -1,6 +1,5 @@
 -- Where what stands before the hyphen is all, there is no hyphen.
-use Rattle.laws.specs.Kit.{needs, sym}
-use Rattle.laws.specs.Tests.Laws.{is-equal, is-other}
+use Rattle.laws.specs.Kit.{needs, sym, is-equal, is-other}
 use Rattle.message_words.specs.Words.{before, lastOf}
 use Rattle.message_words.proofs.last_of.Statement.{statement}
 use Rattle.message_words.proofs.last_of.Tie as tie

@@ -1,6 +1,5 @@
 -- What is behind the newline in the rest of the text is found as many bytes further on in the text.
-use Rattle.laws.specs.Kit.{needs}
-use denote.Ref.{now}
+use Rattle.laws.specs.Kit.{needs, now}
 use Rattle.message_words.specs.Words.Laws.{further-on}
 use Rattle.message_words.proofs.next_line.Statement.{statement}
 use Rattle.message_words.proofs.next_line.Tie as tie

@@ -1,6 +1,5 @@
 -- The test is the definition's, and so are the two answers.
-use Rattle.laws.specs.Kit.{needs, sym}
-use Rattle.laws.specs.Tests.{_and_, is}
+use Rattle.laws.specs.Kit.{needs, sym, _and_, is}
 use Rattle.message_words.specs.Words.{before, numberOf}
 use Rattle.message_words.proofs.number_of.Statement.{statement}
 use Rattle.message_words.proofs.number_of.Tie as tie

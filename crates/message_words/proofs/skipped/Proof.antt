@@ -1,6 +1,5 @@
 -- The code asks the definition's two questions.
-use Rattle.laws.specs.Kit.{needs}
-use Rattle.laws.specs.Tests.{_or_, is}
+use Rattle.laws.specs.Kit.{needs, _or_, is}
 use Rattle.message_words.specs.Words.{skipped}
 use Rattle.message_words.proofs.skipped.Statement.{statement}
 use Rattle.message_words.proofs.skipped.Tie as tie

@@ -1,7 +1,6 @@
 -- What the series add has the remainder of the net: what is sold is added as what it lacks to 2 to the 32, and no sum is above the 2 to the 52
 -- that the definition adds.
-use Rattle.laws.specs.Kit.{_≡_, refl, Bool, cond, List, [], _∷_, ℕ, _+_, _-_, _*_, _≤_, _<_, arith, length, getD, split}
-use Prim.Native.Nat.{suc, _%_}
+use Rattle.laws.specs.Kit.{_≡_, refl, Bool, cond, List, [], _∷_, ℕ, _+_, _-_, _*_, _≤_, _<_, arith, length, getD, split, suc, _%_}
 use mir.Syntax.{w8}
 use mir.Val.{Fits}
 use Rattle.laws.specs.Lists.{same, total, keep, All}

@@ -1,10 +1,6 @@
 -- Sums are raised one after another, and by one block after another: remainders add up.
-use Rattle.laws.specs.Kit.{_≡_, refl, sym, ap, _∙_, List, [], ℕ, _+_, _-_, _/_, _≤_, _<_, arith, length, take, drop, getD}
-use Prim.Native.Nat.{_%_}
-use native.Mathlib.Nat.{add-zero}
+use Rattle.laws.specs.Kit.{_≡_, refl, sym, ap, _∙_, List, [], ℕ, _+_, _-_, _/_, _≤_, _<_, arith, length, take, drop, getD, _%_, add-zero, set, getD-set-same, getD-set-other, drop-set-lt, drop-drop, getD-drop, take-all}
 use native.Mathlib.Decide.{ℕ-discrete}
-use lib.ListN.{set}
-use lib.Seq.{getD-set-same, getD-set-other, drop-set-lt, drop-drop, getD-drop, take-all}
 use Rattle.laws.specs.Lists.{total}
 use Rattle.laws.specs.Lists.Count.{total-more}
 use Rattle.laws.specs.Cut.{cut}

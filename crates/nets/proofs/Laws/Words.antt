@@ -1,9 +1,5 @@
 -- The sums written as entries are the nets, where the sums were 0 before the series were added.
-use Rattle.laws.specs.Kit.{_≡_, refl, sym, ap, _∙_, true, List, ℕ, _≤_, _<_, arith, length, getD}
-use Prim.Native.Nat.{zero, suc, _%_}
-use native.Mathlib.Nat.{zero-add}
-use Rattle.laws.specs.Tests.{is}
-use Rattle.laws.specs.Tests.Laws.{is-yes}
+use Rattle.laws.specs.Kit.{_≡_, refl, sym, ap, _∙_, true, List, ℕ, _≤_, _<_, arith, length, getD, zero, suc, _%_, zero-add, is, is-yes}
 use Rattle.laws.specs.Lists.{keep}
 use Rattle.laws.specs.Lists.Each.{all-imply, every-all, all-getD}
 use Rattle.laws.specs.Bytes.{written}

@@ -1,6 +1,5 @@
 -- No sender passes; a sender passes if its nets have the bytes of the sums of its own series.
-use Rattle.laws.specs.Kit.{arith, refl, told, denied}
-use Rattle.laws.specs.Tests.{_and_, _or_, neg, is}
+use Rattle.laws.specs.Kit.{arith, refl, told, denied, _and_, _or_, neg, is}
 use Rattle.laws.specs.Lists.{every}
 use Rattle.paper.specs.Layout.{zeros}
 use Rattle.paper.specs.PlainRun.{netsTrue}

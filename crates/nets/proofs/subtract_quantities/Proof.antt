@@ -1,7 +1,5 @@
 -- Below k each sum has its quantity taken away, which is adding what it lacks to 2 to the 32; from k on the sums are as they were.
-use Rattle.laws.specs.Kit.{needs, arith, _≡_, refl, ap, _∙_, _≤_, _<_, _-_, _+_, length, drop, getD}
-use Prim.Native.Nat.{_%_}
-use lib.ListN.{length-set}
+use Rattle.laws.specs.Kit.{needs, arith, _≡_, refl, ap, _∙_, _≤_, _<_, _-_, _+_, length, drop, getD, _%_, length-set}
 use Rattle.paper.specs.Layout.{quantity}
 use Rattle.nets.specs.Sums.{Raised}
 use Rattle.nets.proofs.Laws.Raising.{lacking, raised-none, raised-more, rest-more}

@@ -1,6 +1,5 @@
 -- The sums, raised from 0 by all series, are the nets, and they are what is written before the check is put right.
-use Rattle.laws.specs.Kit.{arith, refl}
-use Rattle.laws.specs.Tests.{_and_, is}
+use Rattle.laws.specs.Kit.{arith, refl, _and_, is}
 use Rattle.laws.specs.Lists.{every}
 use Rattle.paper.specs.Layout.{zeros}
 use Rattle.nets.proofs.Laws.Nets.{few-cut}

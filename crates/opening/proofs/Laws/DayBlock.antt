@@ -1,11 +1,5 @@
 -- The day block that the parameters of an opening make: each of its fields holds what was put there.
-use mathlib.Core.Path.{_≡_, ap, _∙_}
-use mathlib.Core.Bool.{true}
-use mathlib.Core.List.{[], _∷_, _++_, append-assoc}
-use Prim.Native.Nat.{ℕ, _+_, _≤_, _<_}
-use native.Mathlib.Omega.{arith}
-use lib.ListN.{replicate}
-use Rattle.laws.specs.Tests.{_and_, is}
+use Rattle.laws.specs.Kit.{_≡_, ap, _∙_, true, [], _∷_, _++_, append-assoc, ℕ, _+_, _≤_, _<_, arith, replicate, _and_, is}
 use Rattle.laws.specs.Lists.{every}
 use Rattle.laws.specs.Bytes.{part, value, little, number}
 use Rattle.laws.specs.Bytes.Laws.{little-length, value-little, part-here, part-over}

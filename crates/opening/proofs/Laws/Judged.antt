@@ -1,9 +1,5 @@
 -- A block made of the parameters is sound exactly when each of them passes its own test.
-use mathlib.Core.Path.{_≡_, sym, _∙_}
-use mathlib.Core.Bool.{Bool, true}
-use Prim.Native.Nat.{_<_}
-use Rattle.laws.specs.Tests.{_and_, is, upto}
-use Rattle.laws.specs.Tests.Laws.{split, clash, and-left, and-right, and-both, and-true, is-yes, is-equal}
+use Rattle.laws.specs.Kit.{_≡_, sym, _∙_, Bool, true, _<_, _and_, is, upto, split, clash, and-left, and-right, and-both, and-true, is-yes, is-equal}
 use Rattle.paper.specs.Ranges.{nAllowed, leadAllowed, clockAllowed}
 use Rattle.paper.specs.Ids.{dayWellFormed}
 use Rattle.paper.specs.Eic.{eicValid}

@@ -1,12 +1,5 @@
 -- The answers of an opening, and the book as it leaves it.
-use mathlib.Core.Path.{_≡_, refl}
-use mathlib.Core.Bool.{true, false}
-use mathlib.Core.List.{_++_}
-use Prim.Native.Nat.{_-_, _/_, _≤_}
-use native.Mathlib.Omega.{arith}
-use lib.ListN.{length, take, drop, replicate}
-use Rattle.laws.specs.Tests.{neg, is}
-use Rattle.laws.specs.Tests.Laws.{and-left, and-right, upto-yes}
+use Rattle.laws.specs.Kit.{_≡_, refl, true, false, _++_, _-_, _/_, _≤_, arith, length, take, drop, replicate, neg, is, and-left, and-right, upto-yes}
 use Rattle.paper.specs.Layout.{Bytes}
 use Rattle.paper.specs.Ranges.{wholeBlocks}
 use Rattle.paper.specs.Opening.{Opening, dayBlockOf, openingAllowed, openNumber, opened}

@@ -1,8 +1,5 @@
 -- A block of zeros into which each field is written at its place is, once sealed, the day block.
-use mathlib.Core.Path.{_≡_, refl, sym, ap, _∙_}
-use mathlib.Core.List.{_++_}
-use Prim.Native.Nat.{ℕ}
-use lib.ListN.{replicate, set}
+use Rattle.laws.specs.Kit.{_≡_, refl, sym, ap, _∙_, _++_, ℕ, replicate, set}
 use Rattle.laws.specs.Bytes.{written, little}
 use Rattle.paper.specs.Check.{sealed}
 use Rattle.paper.specs.Layout.{Bytes}

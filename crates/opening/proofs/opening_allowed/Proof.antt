@@ -1,7 +1,5 @@
 -- A block made of the parameters holds them in its fields, so that it is sound exactly when each passes its own test.
-use Rattle.laws.specs.Kit.{arith, sym}
-use denote.Ref.{now}
-use Rattle.laws.specs.Tests.{_and_}
+use Rattle.laws.specs.Kit.{arith, sym, now, _and_}
 use Rattle.paper.specs.Opening.{Opening}
 use Rattle.opening.proofs.Laws.Judged.{opening-tested}
 use Rattle.opening.proofs.opening_allowed.Statement.{statement}

@@ -1,7 +1,5 @@
 -- The first block of a zeroed book is what the day block is written into; the others stay zero.
-use Rattle.laws.specs.Kit.{arith, sym, ap, _≤_, length}
-use lib.Seq.{length-take-le}
-use denote.Ref.{now}
+use Rattle.laws.specs.Kit.{arith, sym, ap, _≤_, length, length-take-le, now}
 use Rattle.opening.proofs.Laws.Opened.{zeros-front, opened-zeros}
 use Rattle.opening.proofs.write_opened.Statement.{statement}
 use Rattle.opening.proofs.write_opened.Tie as tie

@@ -1,6 +1,5 @@
 -- The bytes passed by are 0, and those are in the end all there are.
-use Rattle.laws.specs.Kit.{arith, _≡_, refl, _≤_, _-_, length, take}
-use lib.ListN.{replicate, length-set}
+use Rattle.laws.specs.Kit.{arith, _≡_, refl, _≤_, _-_, length, take, replicate, length-set}
 use Rattle.laws.specs.Bytes.Laws.{zero-more, zero-end}
 use Rattle.opening.proofs.zero.Statement.{statement}
 use Rattle.opening.proofs.zero.Tie as tie

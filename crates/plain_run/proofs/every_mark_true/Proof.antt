@@ -1,8 +1,6 @@
 -- What is found so far, with the test of the slots left, is the test of all.
-use Rattle.laws.specs.Kit.{needs, arith, _≡_, _≤_, _-_, _/_, length, drop, step-cut-at, end-cut}
-use Rattle.laws.specs.Tests.{_and_}
+use Rattle.laws.specs.Kit.{needs, arith, _≡_, _≤_, _-_, _/_, length, drop, step-cut-at, end-cut, _and_, every-start, every-go, every-end}
 use Rattle.laws.specs.Lists.{every}
-use Rattle.laws.specs.Loops.{every-start, every-go, every-end}
 use Rattle.laws.specs.Cut.{cut}
 use Rattle.paper.specs.PlainRun.{markTrue}
 use Rattle.plain_run.proofs.every_mark_true.Statement.{statement}

@@ -1,14 +1,5 @@
 -- What the loop that writes digits does in a turn, what the pieces of a text give together, and what each answer of printing leaves.
-use mathlib.Core.Path.{_≡_, refl, sym, _∙_}
-use mathlib.Core.Logic.{⊎-elim}
-use mathlib.Core.Bool.{Bool, true, false, cond}
-use mathlib.Core.List.{List, _∷_}
-use Prim.Native.Nat.{ℕ, zero, suc, _+_, _-_, _/_, _%_, _≤_, _<_}
-use native.Mathlib.Nat.{add-zero, zero-add}
-use native.Mathlib.Omega.{arith}
-use lib.ListN.{length, set, length-append}
-use Rattle.laws.specs.Tests.{is, less}
-use Rattle.laws.specs.Tests.Laws.{lt-or, less-true, less-false}
+use Rattle.laws.specs.Kit.{_≡_, refl, sym, _∙_, ⊎-elim, Bool, true, false, cond, List, _∷_, ℕ, zero, suc, _+_, _-_, _/_, _%_, _≤_, _<_, add-zero, zero-add, arith, length, set, length-append, is, less, lt-or, less-true, less-false}
 use Rattle.laws.specs.Bytes.{written}
 use Rattle.laws.specs.Bytes.Laws.{written-none, written-cons, written-last, written-append, written-take-drop}
 use Rattle.paper.specs.QuantityText.{lastDigits, widthOf, decimal, quantityText, quantityPrinted, printedInto}

@@ -1,15 +1,5 @@
 -- One turn of each loop that reads: the run of digits goes on or ends, the number grows by a digit and stays small.
-use mathlib.Core.Path.{_≡_}
-use mathlib.Core.Bool.{true, false}
-use mathlib.Core.List.{List}
-use Prim.Native.Nat.{ℕ, _+_, _-_, _*_, _^_, _≤_, _<_}
-use native.Mathlib.Nat.{pow-suc, pow-le-pow-right, mul-le-mul}
-use native.Mathlib.Numerals.{add-one}
-use native.Mathlib.Omega.{arith}
-use lib.ListN.{length, getD, take, drop, drop-of-length-le}
-use lib.Seq.{drop-cons}
-use Rattle.laws.specs.Tests.{_and_, is, upto}
-use Rattle.laws.specs.Tests.Laws.{neg-true, and-both, upto-true, is-equal}
+use Rattle.laws.specs.Kit.{_≡_, true, false, List, ℕ, _+_, _-_, _*_, _^_, _≤_, _<_, pow-suc, pow-le-pow-right, mul-le-mul, add-one, arith, length, getD, take, drop, drop-of-length-le, drop-cons, _and_, is, upto, neg-true, and-both, upto-true, is-equal}
 use Rattle.laws.specs.Lists.{every}
 use Rattle.laws.specs.Lists.Each.{every-all, all-getD-inside}
 use Rattle.laws.specs.Lists.Keep.{until-hit, until-end}

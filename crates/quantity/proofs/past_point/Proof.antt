@@ -1,8 +1,5 @@
 -- The code asks the definition's three questions; past them at most three digits are left, so every sum and product fits.
-use Rattle.laws.specs.Kit.{arith, _∙_, _≤_, length}
-use lib.Seq.{take-all}
-use denote.Ref.{now}
-use Rattle.laws.specs.Tests.Laws.{and-no-left, and-no-right, upto-false, is-other}
+use Rattle.laws.specs.Kit.{arith, _∙_, _≤_, length, take-all, now, and-no-left, and-no-right, upto-false, is-other}
 use Rattle.quantity.proofs.Laws.Reading.{point-refused, point-read, product-small}
 use Rattle.quantity.proofs.past_point.Statement.{statement}
 use Rattle.quantity.proofs.past_point.Tie as tie

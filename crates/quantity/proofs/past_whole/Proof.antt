@@ -1,6 +1,5 @@
 -- The code asks the definition's questions in its order.
-use Rattle.laws.specs.Kit.{arith, needs}
-use Rattle.laws.specs.Tests.Laws.{is-equal, is-other}
+use Rattle.laws.specs.Kit.{arith, needs, is-equal, is-other}
 use Rattle.paper.specs.QuantityText.{pastWhole}
 use Rattle.laws.specs.Slices.{rest-slice}
 use Rattle.quantity.proofs.past_whole.Statement.{statement}

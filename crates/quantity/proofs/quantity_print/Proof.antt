@@ -1,6 +1,5 @@
 -- The code asks the definition's two questions in its order, a text being four bytes longer than its whole megawatts; only then it writes.
-use Rattle.laws.specs.Kit.{arith, _∙_}
-use denote.Ref.{now}
+use Rattle.laws.specs.Kit.{arith, _∙_, now}
 use Rattle.quantity.proofs.Laws.Printing.{answer-large, into-large, answer-short, into-short, answer-text, into-text}
 use Rattle.quantity.proofs.quantity_print.Statement.{statement}
 use Rattle.quantity.proofs.quantity_print.Tie as tie

@@ -1,8 +1,5 @@
 -- A text with no byte has no minus either; otherwise the code asks the definition's question of the first byte.
-use Rattle.laws.specs.Kit.{arith, needs}
-use denote.Ref.{now}
-use Rattle.laws.specs.Tests.{is}
-use Rattle.laws.specs.Tests.Laws.{is-equal, is-other}
+use Rattle.laws.specs.Kit.{arith, needs, now, is, is-equal, is-other}
 use Rattle.paper.specs.QuantityText.{quantityRead}
 use Rattle.laws.specs.Slices.{rest-slice}
 use Rattle.laws.specs.Lists.Each.{length-none}

@@ -1,8 +1,5 @@
 -- The code asks the definition's two questions, and reads the digits that it counted.
-use Rattle.laws.specs.Kit.{needs, arith, _∙_, sym}
-use lib.ListN.{length-take}
-use lib.Seq.{length-take-le}
-use Rattle.laws.specs.Tests.Laws.{and-no-left, and-no-right, upto-false}
+use Rattle.laws.specs.Kit.{needs, arith, _∙_, sym, length-take, length-take-le, and-no-left, and-no-right, upto-false}
 use Rattle.laws.specs.Slices.{rest-slice}
 use Rattle.quantity.proofs.Laws.Reading.{unsigned-refused, unsigned-read}
 use Rattle.quantity.proofs.unsigned_read.Statement.{statement}

@@ -1,6 +1,5 @@
 -- The code asks the definition's questions in the definition's order.
-use Rattle.laws.specs.Kit.{needs}
-use Rattle.laws.specs.Tests.Laws.{is-equal, is-other}
+use Rattle.laws.specs.Kit.{needs, is-equal, is-other}
 use Rattle.paper.specs.QuantityText.{worth}
 use Rattle.quantity.proofs.worth.Statement.{statement}
 use Rattle.quantity.proofs.worth.Tie as tie

@@ -1,6 +1,5 @@
 -- The test is the definition's.
-use Rattle.laws.specs.Kit.{needs, arith}
-use Rattle.laws.specs.Tests.Laws.{less-true, less-false}
+use Rattle.laws.specs.Kit.{needs, arith, less-true, less-false}
 use Rattle.reader.specs.Walk.{following}
 use Rattle.reader.proofs.following.Statement.{statement}
 use Rattle.reader.proofs.following.Tie as tie

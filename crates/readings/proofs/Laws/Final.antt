@@ -1,10 +1,5 @@
 -- The refusals of a final value in their order, and the value past them.
-use mathlib.Core.Path.{_≡_}
-use mathlib.Core.Bool.{true, false}
-use mathlib.Core.List.{List}
-use Prim.Native.Nat.{ℕ, _-_, _≤_, _<_}
-use Rattle.laws.specs.Tests.{_or_, neg}
-use Rattle.laws.specs.Tests.Laws.{is-equal, is-other, less-true, less-false}
+use Rattle.laws.specs.Kit.{_≡_, true, false, List, ℕ, _-_, _≤_, _<_, _or_, neg, is-equal, is-other, less-true, less-false}
 use Rattle.laws.specs.Bytes.{part}
 use Rattle.paper.specs.declared.FinalAnswer.{FinalAnswer}
 use Rattle.paper.specs.Layout.{Bytes, Block, nOf}

@@ -1,11 +1,5 @@
 -- The block at a place that a search gave is what the search finds; at place 0 there is none.
-use mathlib.Core.Path.{_≡_, refl, sym, ap, _∙_}
-use mathlib.Core.Bool.{Bool}
-use mathlib.Core.Option.{none, some, Option·getD}
-use mathlib.Core.List.{List, []}
-use Prim.Native.Nat.{ℕ, zero, suc, _-_}
-use native.Mathlib.Omega.{arith}
-use lib.ListN.{getD}
+use Rattle.laws.specs.Kit.{_≡_, refl, sym, ap, _∙_, Bool, none, some, Option·getD, List, [], ℕ, zero, suc, _-_, arith, getD}
 use Rattle.laws.specs.Lists.{find, place}
 use Rattle.laws.specs.Lists.Search.{has-no-find, place-none, place-find}
 use Rattle.paper.specs.Layout.{Block}

@@ -1,11 +1,5 @@
 -- What a party holds under a pair, by the place of its series, and the final value of the pair from there.
-use mathlib.Core.Path.{_≡_}
-use mathlib.Core.Bool.{true, false}
-use mathlib.Core.List.{List, [], _++_}
-use Prim.Native.Nat.{ℕ}
-use native.Mathlib.Omega.{arith}
-use Rattle.laws.specs.Tests.{_and_, neg, is}
-use Rattle.laws.specs.Tests.Laws.{split, neg-or-neg, is-yes, is-no}
+use Rattle.laws.specs.Kit.{_≡_, true, false, List, [], _++_, ℕ, arith, _and_, neg, is, split, neg-or-neg, is-yes, is-no}
 use Rattle.laws.specs.Lists.{place}
 use Rattle.laws.specs.Slices.{part-past}
 use Rattle.paper.specs.Layout.{Bytes, Block, quantities, entry}

@@ -1,12 +1,5 @@
 -- A list against two joined: it is cut where the first of them ends.
-use mathlib.Core.Path.{_≡_, sym, _∙_}
-use mathlib.Core.Bool.{Bool, false}
-use mathlib.Core.List.{List, _++_}
-use Prim.Native.Nat.{ℕ, _+_, _-_, _<_}
-use native.Mathlib.Omega.{arith}
-use lib.ListN.{length, take, drop, length-append}
-use lib.Seq.{take-append-seam, drop-append-seam}
-use Rattle.laws.specs.Tests.{_and_}
+use Rattle.laws.specs.Kit.{_≡_, sym, _∙_, Bool, false, List, _++_, ℕ, _+_, _-_, _<_, arith, length, take, drop, length-append, take-append-seam, drop-append-seam, _and_}
 use Rattle.laws.specs.Lists.{same}
 use Rattle.laws.specs.Lists.Same.{same-split, same-length-other}
 use Rattle.laws.specs.Slices.{rest-slice}

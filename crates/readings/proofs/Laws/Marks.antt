@@ -1,8 +1,5 @@
 -- The mark and the block of a stored series, by its place.
-use mathlib.Core.Path.{_≡_, sym}
-use mathlib.Core.Bool.{true, false}
-use mathlib.Core.List.{List, []}
-use Prim.Native.Nat.{ℕ}
+use Rattle.laws.specs.Kit.{_≡_, sym, true, false, List, [], ℕ}
 use Rattle.laws.specs.Lists.{place}
 use Rattle.paper.specs.declared.MarkAnswer.{MarkAnswer}
 use Rattle.paper.specs.Layout.{Bytes, Block, state, first, partner}

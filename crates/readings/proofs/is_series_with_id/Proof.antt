@@ -1,6 +1,5 @@
 -- Where the sender's slot differs, the rest of the test does not matter.
-use Rattle.laws.specs.Kit.{needs, sym, told, denied}
-use Rattle.laws.specs.Tests.{_and_}
+use Rattle.laws.specs.Kit.{needs, sym, told, denied, _and_}
 use Rattle.paper.specs.Book.{idIs}
 use Rattle.readings.proofs.is_series_with_id.Statement.{statement}
 use Rattle.readings.proofs.is_series_with_id.Tie as tie

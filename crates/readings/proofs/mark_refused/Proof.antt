@@ -1,6 +1,5 @@
 -- No state, no code.
-use Rattle.laws.specs.Kit.{refl}
-use Rattle.laws.specs.Tests.{is}
+use Rattle.laws.specs.Kit.{refl, is}
 use Rattle.paper.specs.Marks.{stateCode}
 use Rattle.readings.proofs.mark_refused.Statement.{statement}
 use Rattle.readings.proofs.mark_refused.Tie as tie

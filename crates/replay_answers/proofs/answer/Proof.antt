@@ -1,7 +1,5 @@
 -- The code goes by the definition's cases; a call that shows bytes leaves the book as it was.
-use Rattle.laws.specs.Kit.{arith, refl}
-use Rattle.laws.specs.Tests.{is, less}
-use Rattle.laws.specs.Tests.Laws.{is-other}
+use Rattle.laws.specs.Kit.{arith, refl, is, less, is-other}
 use Rattle.replay_answers.specs.Answers.{lineOf, bookAfter}
 use Rattle.replay_answers.proofs.answer.Statement.{statement}
 use Rattle.replay_answers.proofs.answer.Tie as tie

@@ -1,6 +1,5 @@
 -- The code asks the definition's questions; only tags 5 to 7 change the book.
-use Rattle.laws.specs.Kit.{arith, refl}
-use Rattle.laws.specs.Tests.Laws.{less-true, less-false}
+use Rattle.laws.specs.Kit.{arith, refl, less-true, less-false}
 use Rattle.replay_answers.specs.Answers.{numbersTold, bookAfter}
 use Rattle.replay_answers.proofs.numbers.Statement.{statement}
 use Rattle.replay_answers.proofs.numbers.Tie as tie

@@ -1,6 +1,5 @@
 -- A byte that is not 0, the first one, already says that the block is used.
-use mathlib.Core.Path.{sym, _∙_}
-use borrow.Author.Needs.{needs}
+use Rattle.laws.specs.Kit.{sym, _∙_, needs}
 use Rattle.paper.specs.Book.{isFree}
 use Rattle.slots.proofs.Laws.{kind-used}
 use Rattle.slots.proofs.is_free.Statement.{statement}

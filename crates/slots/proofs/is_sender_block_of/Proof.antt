@@ -1,7 +1,6 @@
 -- Both tests are the definition's.
-use Rattle.laws.specs.Tests.{_and_}
+use Rattle.laws.specs.Kit.{_and_, needs}
 use Rattle.paper.specs.Book.{isSenderBlockOf}
-use borrow.Author.Needs.{needs}
 use Rattle.slots.proofs.is_sender_block_of.Statement.{statement}
 use Rattle.slots.proofs.is_sender_block_of.Tie as tie
 

@@ -1,7 +1,6 @@
 -- The kind is the definition's.
-use Rattle.laws.specs.Tests.{is}
+use Rattle.laws.specs.Kit.{is, needs}
 use Rattle.paper.specs.Book.{isSeries}
-use borrow.Author.Needs.{needs}
 use Rattle.slots.proofs.is_series.Statement.{statement}
 use Rattle.slots.proofs.is_series.Tie as tie
 

@@ -1,7 +1,6 @@
 -- Both tests are the definition's.
-use Rattle.laws.specs.Tests.{_and_, is}
+use Rattle.laws.specs.Kit.{_and_, is, needs}
 use Rattle.paper.specs.Book.{isSeriesOf}
-use borrow.Author.Needs.{needs}
 use Rattle.slots.proofs.is_series_of.Statement.{statement}
 use Rattle.slots.proofs.is_series_of.Tie as tie
 

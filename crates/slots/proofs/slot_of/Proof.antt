@@ -1,8 +1,7 @@
 -- None of the slots passed by is the sender's, so the first that is has the place that is sought.
-use Rattle.laws.specs.Kit.{needs, arith, _≡_, false, _≤_, _-_, _/_, length, take, step-cut-at, end-cut}
+use Rattle.laws.specs.Kit.{needs, arith, _≡_, false, _≤_, _-_, _/_, length, take, step-cut-at, end-cut, search-start, search-miss, search-place, search-end-place}
 use Rattle.laws.specs.Lists.{has}
 use Rattle.laws.specs.Cut.{cut}
-use Rattle.laws.specs.Loops.{search-start, search-miss, search-place, search-end-place}
 use Rattle.paper.specs.Book.{isSenderBlockOf, slotOf}
 use Rattle.slots.proofs.Laws.{found-so}
 use Rattle.slots.proofs.slot_of.Statement.{statement}

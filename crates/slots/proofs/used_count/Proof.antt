@@ -1,8 +1,7 @@
 -- What stands before the first free slot is the slots passed by and what stands before it among the rest.
-use Rattle.laws.specs.Kit.{needs, arith, _≡_, _≤_, _-_, _+_, _/_, length, drop, step-cut-at, end-cut}
+use Rattle.laws.specs.Kit.{needs, arith, _≡_, _≤_, _-_, _+_, _/_, length, drop, step-cut-at, end-cut, until-rest-start, until-rest-go, until-rest-hit, until-rest-end}
 use Rattle.laws.specs.Lists.{until}
 use Rattle.laws.specs.Cut.{cut}
-use Rattle.laws.specs.Loops.{until-rest-start, until-rest-go, until-rest-hit, until-rest-end}
 use Rattle.paper.specs.Book.{isFree}
 use Rattle.slots.proofs.Laws.{found-so}
 use Rattle.slots.proofs.used_count.Statement.{statement}

@@ -1,7 +1,5 @@
 -- What stands before the first free slot is cut off by its count; where there is no day block, there are no slots.
-use Rattle.laws.specs.Kit.{needs, arith, sym}
-use lib.ListN.{length-take, length-drop}
-use lib.Seq.{length-take-le}
+use Rattle.laws.specs.Kit.{needs, arith, sym, length-take, length-drop, length-take-le}
 use Rattle.slots.proofs.Laws.{used-none, used-some}
 use Rattle.slots.proofs.used_part.Statement.{statement}
 use Rattle.slots.proofs.used_part.Tie as tie

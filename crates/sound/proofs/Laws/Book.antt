@@ -1,14 +1,5 @@
 -- A book cut as the code cuts it: the day block and the used slots, then the free ones.
-use mathlib.Core.Path.{_≡_, refl, sym, ap, _∙_}
-use mathlib.Core.Bool.{Bool, true, false}
-use mathlib.Core.List.{_++_}
-use Prim.Native.Nat.{ℕ, suc, _+_, _-_, _*_, _/_, _%_, _≤_}
-use native.Mathlib.Nat.{div-add-mod'}
-use native.Mathlib.Omega.{arith}
-use lib.ListN.{length, take, drop, length-drop}
-use lib.Seq.{length-take-le, drop-drop}
-use Rattle.laws.specs.Tests.{_and_, is}
-use Rattle.laws.specs.Tests.Laws.{and-left, and-right, and-true, is-yes, upto-yes}
+use Rattle.laws.specs.Kit.{_≡_, refl, sym, ap, _∙_, Bool, true, false, _++_, ℕ, suc, _+_, _-_, _*_, _/_, _%_, _≤_, div-add-mod', arith, length, take, drop, length-drop, length-take-le, drop-drop, _and_, is, and-left, and-right, and-true, is-yes, upto-yes}
 use Rattle.laws.specs.Lists.{every, until}
 use Rattle.laws.specs.Lists.Each.{drop-take, all-imply, every-all, all-every, every-append}
 use Rattle.laws.specs.Lists.Keep.{until-take, until-length}

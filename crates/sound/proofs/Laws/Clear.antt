@@ -1,11 +1,5 @@
 -- A block clashes with none outside its group, so a walk along the group tells whether it clashes with any.
-use mathlib.Core.Path.{_≡_, refl, sym, ap, _∙_}
-use mathlib.Core.Bool.{Bool, true, false}
-use mathlib.Core.List.{List, []}
-use Prim.Native.Nat.{ℕ, _+_, _<_}
-use lib.ListN.{length, drop, getD}
-use Rattle.laws.specs.Tests.{_and_, neg}
-use Rattle.laws.specs.Tests.Laws.{split, clash, and-left, and-right, or-else, is-yes, neg-true, is-same, is-equal}
+use Rattle.laws.specs.Kit.{_≡_, refl, sym, ap, _∙_, Bool, true, false, List, [], ℕ, _+_, _<_, length, drop, getD, _and_, neg, split, clash, and-left, and-right, or-else, is-yes, neg-true, is-same, is-equal}
 use Rattle.laws.specs.Lists.{every}
 use Rattle.paper.specs.Layout.{Block}
 use Rattle.paper.specs.Sound.{sameSender, sameSeries}

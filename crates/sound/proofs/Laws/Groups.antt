@@ -1,13 +1,5 @@
 -- The group of a block, that each group has its bucket, and a group counted along its links.
-use mathlib.Core.Path.{_≡_, sym, ap, _∙_}
-use mathlib.Core.Bool.{Bool, true, false}
-use mathlib.Core.List.{List, []}
-use Prim.Native.Nat.{ℕ, _+_, _/_, _≤_, _<_}
-use native.Mathlib.Nat.{add-zero}
-use native.Mathlib.Omega.{arith}
-use lib.ListN.{length, drop, getD}
-use Rattle.laws.specs.Tests.{is}
-use Rattle.laws.specs.Tests.Laws.{split, and-left, and-right}
+use Rattle.laws.specs.Kit.{_≡_, sym, ap, _∙_, Bool, true, false, List, [], ℕ, _+_, _/_, _≤_, _<_, add-zero, arith, length, drop, getD, is, split, and-left, and-right}
 use Rattle.laws.specs.Lists.{every, count}
 use Rattle.laws.specs.Lists.Each.{all-imply, all-getD-inside, every-all}
 use Rattle.laws.specs.Lists.Count.{count-length}

@@ -1,15 +1,7 @@
 -- Two blocks whose tags both differ do not clash.
-use mathlib.Core.Path.{_≡_, sym, ap, _∙_}
-use mathlib.Core.Bool.{true, false, not, _&&_}
+use Rattle.laws.specs.Kit.{_≡_, sym, ap, _∙_, true, false, not, _&&_, List, [], ℕ, _+_, _≤_, _<_, arith, length, getD, set, getD-set-same, getD-set-other, _and_, _or_, is, less, split, clash, and-left, and-right, or-no, or-else, or-yes-left, or-yes-right, is-equal, less-yes, less-no}
 use borrow.Author.Tests.{not-true}
 use lib.Dec.{eqb}
-use mathlib.Core.List.{List, []}
-use Prim.Native.Nat.{ℕ, _+_, _≤_, _<_}
-use native.Mathlib.Omega.{arith}
-use lib.ListN.{length, getD, set}
-use lib.Seq.{getD-set-same, getD-set-other}
-use Rattle.laws.specs.Tests.{_and_, _or_, is, less}
-use Rattle.laws.specs.Tests.Laws.{split, clash, and-left, and-right, or-no, or-else, or-yes-left, or-yes-right, is-equal, less-yes, less-no}
 use Rattle.laws.specs.Lists.{same}
 use Rattle.laws.specs.Lists.Same.{same-yes}
 use Rattle.laws.specs.Cut.{cut}

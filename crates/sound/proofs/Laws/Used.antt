@@ -1,13 +1,5 @@
 -- The clauses on the used slots, in the code's order; a sender's count, by its own slot.
-use mathlib.Core.Path.{_≡_, refl, sym, ap, _∙_}
-use mathlib.Core.Bool.{Bool, true, false}
-use mathlib.Core.List.{List, []}
-use Prim.Native.Nat.{ℕ, _+_, _/_, _<_}
-use native.Mathlib.Numerals.{add-one}
-use native.Mathlib.Omega.{arith}
-use lib.ListN.{length, getD}
-use Rattle.laws.specs.Tests.{_and_, is}
-use Rattle.laws.specs.Tests.Laws.{split, clash, and-left, and-right, and-both, and-true, and-no-right, or-left, is-other}
+use Rattle.laws.specs.Kit.{_≡_, refl, sym, ap, _∙_, Bool, true, false, List, [], ℕ, _+_, _/_, _<_, add-one, arith, length, getD, _and_, is, split, clash, and-left, and-right, and-both, and-true, and-no-right, or-left, is-other}
 use Rattle.laws.specs.Lists.{every, apart, count}
 use Rattle.laws.specs.Lists.Same.{same-refl}
 use Rattle.laws.specs.Lists.Each.{all-each, every-agree}

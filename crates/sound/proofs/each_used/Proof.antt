@@ -1,6 +1,5 @@
 -- The two stages are the definition's clauses, the counts put last.
-use Rattle.laws.specs.Kit.{needs, told, denied}
-use Rattle.laws.specs.Tests.{_and_}
+use Rattle.laws.specs.Kit.{needs, told, denied, _and_}
 use Rattle.sound.proofs.Laws.Used.{each-used}
 use Rattle.sound.proofs.Laws.Groups.{fields-grouped}
 use Rattle.sound.proofs.each_used.Statement.{statement}

@@ -1,7 +1,5 @@
 -- The clauses are taken in the definition's order, each part as the definition cuts it.
-use Rattle.laws.specs.Kit.{needs, told, denied}
-use denote.Ref.{now}
-use Rattle.laws.specs.Tests.{_and_}
+use Rattle.laws.specs.Kit.{needs, told, denied, now, _and_}
 use Rattle.facts.specs.Sound.{day-n}
 use Rattle.sound.proofs.Laws.Book.{filled-split, slots-few}
 use Rattle.sound.proofs.filled_sound.Statement.{statement}

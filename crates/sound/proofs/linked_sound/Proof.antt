@@ -1,6 +1,5 @@
 -- The two tests are the definition's, the second made where the first holds.
-use Rattle.laws.specs.Kit.{needs, told, denied}
-use Rattle.laws.specs.Tests.{_and_}
+use Rattle.laws.specs.Kit.{needs, told, denied, _and_}
 use Rattle.sound.specs.Used.{linkedSound}
 use Rattle.sound.proofs.linked_sound.Statement.{statement}
 use Rattle.sound.proofs.linked_sound.Tie as tie

@@ -1,7 +1,5 @@
 -- The blocks before the first free one are the day block and the used ones; behind them all must be free, and then every check there is right.
-use Rattle.laws.specs.Kit.{needs, arith, sym, told, denied}
-use lib.Seq.{length-take-le}
-use Rattle.laws.specs.Tests.{_and_}
+use Rattle.laws.specs.Kit.{needs, arith, sym, told, denied, length-take-le, _and_}
 use Rattle.sound.proofs.Laws.Book.{not-whole, day-inside, filled-inside, filled-length, sound-split}
 use Rattle.sound.proofs.sound.Statement.{statement}
 use Rattle.sound.proofs.sound.Tie as tie

@@ -1,6 +1,5 @@
 -- A sender and another block are judged as the definition has it.
-use Rattle.laws.specs.Kit.{needs, sym, _∙_}
-use Rattle.laws.specs.Tests.{_and_}
+use Rattle.laws.specs.Kit.{needs, sym, _∙_, _and_}
 use Rattle.sound.specs.Used.{usedFields}
 use Rattle.sound.proofs.used_fields.Statement.{statement}
 use Rattle.sound.proofs.used_fields.Tie as tie

@@ -1,6 +1,5 @@
 -- What is laid in two turns, the sender's block and then the series, is laid in one.
-use Rattle.laws.specs.Kit.{arith, _/_, length}
-use denote.Ref.{now}
+use Rattle.laws.specs.Kit.{arith, _/_, length, now}
 use Rattle.laws.specs.Cut.{cut}
 use Rattle.laws.specs.Cut.Laws.{cut-length}
 use Rattle.accept.specs.Steps.{senderIfNew, addedTo}

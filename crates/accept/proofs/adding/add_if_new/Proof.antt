@@ -1,6 +1,5 @@
 -- A series that has no place among the stored ones goes to the lowest free slot; any other is left for the renewal.
-use Rattle.laws.specs.Kit.{arith, ap, length}
-use denote.Ref.{now}
+use Rattle.laws.specs.Kit.{arith, ap, length, now}
 use Rattle.laws.specs.Cut.{cut}
 use Rattle.laws.specs.Cut.Laws.{cut-length}
 use Rattle.paper.specs.Layout.{withSendersSlot}

@@ -1,6 +1,5 @@
 -- A sender that has no slot yet gets the lowest free one; for one that has its slot nothing is written.
-use Rattle.laws.specs.Kit.{arith, ap, length}
-use denote.Ref.{now}
+use Rattle.laws.specs.Kit.{arith, ap, length, now}
 use Rattle.laws.specs.Cut.{cut}
 use Rattle.laws.specs.Cut.Laws.{cut-length}
 use Rattle.paper.specs.Acceptance.{senderKept}

@@ -1,6 +1,5 @@
 -- The new ones among the series before k are laid from `start` on.
-use Rattle.laws.specs.Kit.{arith, ap, _∙_, _≡_, _≤_, _-_, _/_, length}
-use denote.Ref.{now}
+use Rattle.laws.specs.Kit.{arith, ap, _∙_, _≡_, _≤_, _-_, _/_, length, now}
 use Rattle.laws.specs.Cut.{cut}
 use Rattle.laws.specs.Cut.Laws.{cut-length}
 use Rattle.accept.specs.Steps.{Laid, addedTo}

@@ -1,7 +1,5 @@
 -- The first of the tests that decides is the definition's.
-use Rattle.laws.specs.Kit.{sym, _∙_, told, denied}
-use Rattle.laws.specs.Tests.{_and_, _or_, neg, is}
-use Rattle.laws.specs.Tests.Laws.{is-equal, is-other}
+use Rattle.laws.specs.Kit.{sym, _∙_, told, denied, _and_, _or_, neg, is, is-equal, is-other}
 use Rattle.accept.specs.Steps.{touchedBy}
 use Rattle.accept.proofs.remarking.is_touched.Statement.{statement}
 use Rattle.accept.proofs.remarking.is_touched.Tie as tie

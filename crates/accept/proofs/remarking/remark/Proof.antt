@@ -1,7 +1,5 @@
 -- A touched block comes back with its mark worked out afresh, another is not written at all.
-use Rattle.laws.specs.Kit.{arith, ap, _∙_}
-use denote.Ref.{now}
-use lib.ListN.{set}
+use Rattle.laws.specs.Kit.{arith, ap, _∙_, now, set}
 use Rattle.laws.specs.Cut.{cut}
 use Rattle.paper.specs.Layout.{withMark}
 use Rattle.paper.specs.Marks.{markIn}

@@ -1,7 +1,6 @@
 -- The blocks before i are marked anew, and every mark is worked out as from the blocks as they came: it reads nothing that a mark changes, and nor
 -- do the links.
-use Rattle.laws.specs.Kit.{arith, _≡_, _∙_, _≤_, _-_, _/_, [], length}
-use denote.Ref.{now}
+use Rattle.laws.specs.Kit.{arith, _≡_, _∙_, _≤_, _-_, _/_, [], length, now}
 use Rattle.laws.specs.Cut.{cut}
 use Rattle.laws.specs.Cut.Laws.{cut-length}
 use Rattle.laws.specs.InPlace.{done, done-none, done-more, done-all}

@@ -1,7 +1,5 @@
 -- The tests are the definition's, in its order; the message's series of the block's pair is the first that has it.
-use Rattle.laws.specs.Kit.{arith, sym, ap, _∙_, _-_}
-use denote.Ref.{now}
-use lib.ListN.{length}
+use Rattle.laws.specs.Kit.{arith, sym, ap, _∙_, _-_, now, length}
 use Rattle.laws.specs.Lists.Search.{place-within}
 use Rattle.laws.specs.Cut.{cut}
 use Rattle.laws.specs.Cut.Laws.{cut-length}

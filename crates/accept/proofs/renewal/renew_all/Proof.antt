@@ -1,6 +1,5 @@
 -- The blocks before i are renewed; what becomes of a block is told by it alone, and block i, still as it was, has the number found for it.
-use Rattle.laws.specs.Kit.{arith, _≡_, _∙_, _≤_, _-_, _/_, [], length}
-use denote.Ref.{now}
+use Rattle.laws.specs.Kit.{arith, _≡_, _∙_, _≤_, _-_, _/_, [], length, now}
 use Rattle.laws.specs.Cut.{cut}
 use Rattle.laws.specs.Cut.Laws.{cut-length}
 use Rattle.laws.specs.InPlace.{done, done-none, done-more-alone, done-all}

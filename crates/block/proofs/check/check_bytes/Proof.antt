@@ -1,6 +1,5 @@
 -- The check so far and the bytes that are left still give the whole check, and the last one to three are taken singly.
-use Rattle.laws.specs.Kit.{arith, _≡_, ap, _∙_, _≤_, _-_, length, drop, needs}
-use denote.Ref.{now}
+use Rattle.laws.specs.Kit.{arith, _≡_, ap, _∙_, _≤_, _-_, length, drop, needs, now}
 use Rattle.paper.specs.Check.{checkFrom}
 use Rattle.laws.specs.Slices.{rest-slice}
 use Rattle.block.proofs.Laws.Turns.{turn}

@@ -1,6 +1,5 @@
 -- The check so far and the bytes that are left still give the whole check.
-use Rattle.laws.specs.Kit.{arith, _≡_, sym, _∙_, _≤_, _-_, length, drop, needs}
-use denote.Ref.{now}
+use Rattle.laws.specs.Kit.{arith, _≡_, sym, _∙_, _≤_, _-_, length, drop, needs, now}
 use Rattle.paper.specs.Check.{checkFrom}
 use Rattle.facts.specs.Check.{check-from-more, check-from-end}
 use Rattle.block.proofs.check.check_from.Statement.{statement}

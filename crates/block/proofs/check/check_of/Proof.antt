@@ -1,9 +1,5 @@
 -- The first 508 bytes of a shorter block are the block.
-use Rattle.laws.specs.Kit.{needs, arith, sym, ap, _∙_}
-use native.Mathlib.Nat.{le-of-lt}
-use lib.ListN.{length-take}
-use lib.Seq.{take-all}
-use denote.Ref.{now}
+use Rattle.laws.specs.Kit.{needs, arith, sym, ap, _∙_, le-of-lt, length-take, take-all, now}
 use Rattle.paper.specs.Check.{checkFrom, checkOf}
 use Rattle.block.proofs.check.check_of.Statement.{statement}
 use Rattle.block.proofs.check.check_of.Tie as tie

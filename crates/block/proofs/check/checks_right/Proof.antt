@@ -1,8 +1,5 @@
 -- The blocks tested and the blocks that are left still give the test of all, and the last one to three are taken singly.
-use Rattle.laws.specs.Kit.{_≡_, ap, _∙_, _-_, _≤_, length, drop, needs, arith}
-use lib.ListN.{length-take, length-drop}
-use denote.Ref.{now}
-use Rattle.laws.specs.Tests.{_and_}
+use Rattle.laws.specs.Kit.{_≡_, ap, _∙_, _-_, _≤_, length, drop, needs, arith, length-take, length-drop, now, _and_}
 use Rattle.laws.specs.Lists.{every}
 use Rattle.laws.specs.Cut.{cut}
 use Rattle.paper.specs.Check.{checkRight}

@@ -1,7 +1,5 @@
 -- The blocks tested and the blocks that are left still give the test of all.
-use Rattle.laws.specs.Kit.{_≡_, _-_, _≤_, length, drop, needs, arith}
-use denote.Ref.{now}
-use Rattle.laws.specs.Tests.{_and_}
+use Rattle.laws.specs.Kit.{_≡_, _-_, _≤_, length, drop, needs, arith, now, _and_}
 use Rattle.laws.specs.Lists.{every}
 use Rattle.laws.specs.Cut.{cut}
 use Rattle.paper.specs.Check.{checkRight}

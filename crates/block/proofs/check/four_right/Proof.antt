@@ -1,8 +1,5 @@
 -- A lane's check so far is that of the bytes passed from its start on, and 508 is a multiple of four.
-use Rattle.laws.specs.Kit.{_≡_, refl, sym, _≤_, _-_, arith}
-use Prim.Native.Nat.{_%_}
-use native.Mathlib.Nat.{zero-add}
-use Rattle.laws.specs.Tests.{_and_, is}
+use Rattle.laws.specs.Kit.{_≡_, refl, sym, _≤_, _-_, arith, _%_, zero-add, _and_, is}
 use Rattle.laws.specs.Bytes.{part}
 use Rattle.paper.specs.Check.{checkFrom}
 use Rattle.block.proofs.Laws.Turns.{lane-start, lane-more, lane-right}

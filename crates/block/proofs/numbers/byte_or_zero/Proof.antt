@@ -1,6 +1,5 @@
 -- A byte inside is the number of one byte there; past the end that number is 0.
-use Rattle.laws.specs.Kit.{sym, needs}
-use denote.Ref.{now}
+use Rattle.laws.specs.Kit.{sym, needs, now}
 use Rattle.laws.specs.Bytes.Laws.{number-1}
 use Rattle.laws.specs.Slices.{number-past}
 use Rattle.block.proofs.numbers.byte_or_zero.Statement.{statement}

@@ -1,7 +1,5 @@
 -- The number of two bytes is its first byte and 256 times its second, which counts as 0 past the end.
-use Rattle.laws.specs.Kit.{_≤_, length, arith, needs}
-use lib.ListN.{List·getD-eq-default}
-use denote.Ref.{now}
+use Rattle.laws.specs.Kit.{_≤_, length, arith, needs, List·getD-eq-default, now}
 use Rattle.laws.specs.Bytes.Laws.{number-1, number-2}
 use Rattle.block.proofs.numbers.first_2.Statement.{statement}
 use Rattle.block.proofs.numbers.first_2.Tie as tie

@@ -1,7 +1,5 @@
 -- The number of four bytes is the sum of their values at powers of 256, and a byte past the end counts as 0.
-use Rattle.laws.specs.Kit.{_≤_, length, arith}
-use lib.ListN.{List·getD-eq-default}
-use denote.Ref.{now}
+use Rattle.laws.specs.Kit.{_≤_, length, arith, List·getD-eq-default, now}
 use Rattle.laws.specs.Bytes.Laws.{number-1, number-4}
 use Rattle.block.proofs.numbers.first_4.Statement.{statement}
 use Rattle.block.proofs.numbers.first_4.Tie as tie

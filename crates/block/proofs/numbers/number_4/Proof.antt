@@ -1,6 +1,5 @@
 -- The number at an offset is the number at the start of what stands from there on; past the end it is 0.
-use Rattle.laws.specs.Kit.{arith, sym, _∙_}
-use denote.Ref.{now}
+use Rattle.laws.specs.Kit.{arith, sym, _∙_, now}
 use Rattle.laws.specs.Slices.{number-past, number-slice}
 use Rattle.block.proofs.numbers.number_4.Statement.{statement}
 use Rattle.block.proofs.numbers.number_4.Tie as tie

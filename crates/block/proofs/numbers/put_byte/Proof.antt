@@ -1,7 +1,5 @@
 -- A byte past the end is not set, and a list set past its end is the list.
-use Rattle.laws.specs.Kit.{arith, sym, needs}
-use lib.Seq.{set-out}
-use denote.Ref.{now}
+use Rattle.laws.specs.Kit.{arith, sym, needs, set-out, now}
 use Rattle.block.proofs.numbers.put_byte.Statement.{statement}
 use Rattle.block.proofs.numbers.put_byte.Tie as tie
 

@@ -1,6 +1,5 @@
 -- The number of four bytes is the sum of their values at powers of 256.
-use Rattle.laws.specs.Kit.{arith}
-use denote.Ref.{now}
+use Rattle.laws.specs.Kit.{arith, now}
 use Rattle.laws.specs.Bytes.Laws.{number-4}
 use Rattle.block.proofs.numbers.whole_4.Statement.{statement}
 use Rattle.block.proofs.numbers.whole_4.Tie as tie

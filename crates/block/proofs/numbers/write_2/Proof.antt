@@ -1,6 +1,5 @@
 -- What is written at an offset is written at the start of what stands from there on; past the end nothing is.
-use Rattle.laws.specs.Kit.{arith, sym}
-use denote.Ref.{now}
+use Rattle.laws.specs.Kit.{arith, sym, now}
 use Rattle.laws.specs.Bytes.{little}
 use Rattle.laws.specs.Slices.{written-past, written-slice}
 use Rattle.block.proofs.numbers.write_2.Statement.{statement}

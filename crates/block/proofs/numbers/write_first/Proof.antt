@@ -1,7 +1,5 @@
 -- What is still to be written over what is written so far gives the whole, and at the end of either row nothing is left to write.
-use Rattle.laws.specs.Kit.{needs, arith, _≡_, refl, _≤_, _-_, length, drop, step-byte}
-use Prim.Native.Nat.{min}
-use lib.ListN.{length-set}
+use Rattle.laws.specs.Kit.{needs, arith, _≡_, refl, _≤_, _-_, length, drop, step-byte, min, length-set}
 use Rattle.laws.specs.Bytes.{written}
 use Rattle.block.proofs.Laws.Writing.{write-more, write-end}
 use Rattle.block.proofs.numbers.write_first.Statement.{statement}

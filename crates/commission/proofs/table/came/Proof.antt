@@ -1,7 +1,5 @@
 -- Each arm calls what the definition names for its command.
-use Rattle.laws.specs.Kit.{needs, ap, _∙_, refl}
-use Rattle.laws.specs.Tests.{is}
-use Rattle.laws.specs.Tests.Laws.{is-other}
+use Rattle.laws.specs.Kit.{needs, ap, _∙_, refl, is, is-other}
 use Rattle.paper.specs.declared.QuantityRead.{QuantityRead}
 use Rattle.cases.specs.Case.{flag}
 use Rattle.commission.proofs.Laws.{as-number}

@@ -1,7 +1,6 @@
 -- Each cell is read, and the call made, as the definition does.
-use Rattle.laws.specs.Kit.{needs, sym, ap, _∙_}
+use Rattle.laws.specs.Kit.{needs, sym, ap, _∙_, _and_, is}
 use Rattle.laws.specs.Base.{ap₂}
-use Rattle.laws.specs.Tests.{_and_, is}
 use Rattle.cases_site.specs.Site.{rowRight, rowBook}
 use Rattle.commission.proofs.table.case.Statement.{statement}
 use Rattle.commission.proofs.table.case.Tie as tie

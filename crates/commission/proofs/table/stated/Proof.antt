@@ -1,6 +1,5 @@
 -- The code's `&` and `|` are the definition's.
-use Rattle.laws.specs.Kit.{refl}
-use Rattle.laws.specs.Tests.{_and_, _or_, less}
+use Rattle.laws.specs.Kit.{refl, _and_, _or_, less}
 use Rattle.paper.specs.Listing.{text}
 use Rattle.cases_site.specs.Site.{stated}
 use Rattle.commission.proofs.table.stated.Statement.{statement}

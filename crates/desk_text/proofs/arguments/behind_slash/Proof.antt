@@ -1,6 +1,5 @@
 -- The two cases.
-use Rattle.laws.specs.Kit.{needs}
-use Rattle.laws.specs.Tests.Laws.{is-equal, is-other}
+use Rattle.laws.specs.Kit.{needs, is-equal, is-other}
 use Rattle.desk_text.proofs.arguments.behind_slash.Statement.{statement}
 use Rattle.desk_text.proofs.arguments.behind_slash.Tie as tie
 

@@ -1,6 +1,5 @@
 -- The code asks what the definition asks.
-use Rattle.laws.specs.Kit.{needs}
-use Rattle.laws.specs.Tests.Laws.{less-true, less-false}
+use Rattle.laws.specs.Kit.{needs, less-true, less-false}
 use Rattle.desk_text.specs.Arguments.{bookLength}
 use Rattle.desk_text.proofs.arguments.book_length.Statement.{statement}
 use Rattle.desk_text.proofs.arguments.book_length.Tie as tie

@@ -1,6 +1,5 @@
 -- The code asks what the definition asks; an id that has room is written over sixteen zero bytes.
-use Rattle.laws.specs.Kit.{needs}
-use Rattle.laws.specs.Tests.Laws.{less-true, less-false}
+use Rattle.laws.specs.Kit.{needs, less-true, less-false}
 use Rattle.desk_text.specs.Arguments.{idField}
 use Rattle.desk_text.proofs.arguments.id_field.Statement.{statement}
 use Rattle.desk_text.proofs.arguments.id_field.Tie as tie

@@ -1,6 +1,5 @@
 -- The code asks what the definition asks.
-use Rattle.laws.specs.Kit.{needs}
-use Rattle.laws.specs.Tests.Laws.{less-true, less-false}
+use Rattle.laws.specs.Kit.{needs, less-true, less-false}
 use Rattle.desk_text.specs.Numbers.{minuteAfter}
 use Rattle.desk_text.proofs.numbers.minute_after.Statement.{statement}
 use Rattle.desk_text.proofs.numbers.minute_after.Tie as tie

@@ -1,6 +1,5 @@
 -- The code asks whether a minus stands in front, as the definition does; an empty text has none.
-use Rattle.laws.specs.Kit.{needs, ap, _∙_}
-use Rattle.laws.specs.Tests.Laws.{is-equal, is-other}
+use Rattle.laws.specs.Kit.{needs, ap, _∙_, is-equal, is-other}
 use Rattle.laws.specs.Slices.{rest-slice}
 use Rattle.desk_text.specs.Numbers.{minuteRead, minuteAfter, minuteBefore}
 use Rattle.desk_text.proofs.Digits.{no-minus}

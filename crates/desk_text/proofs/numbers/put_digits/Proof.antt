@@ -1,6 +1,5 @@
 -- The first k bytes of the array are the digits.
-use Rattle.laws.specs.Kit.{needs, sym}
-use lib.Seq.{length-take-le}
+use Rattle.laws.specs.Kit.{needs, sym, length-take-le}
 use Rattle.desk_text.specs.Put.Laws.{called}
 use Rattle.desk_text.proofs.Digits.{digits-front}
 use Rattle.desk_text.proofs.numbers.put_digits.Statement.{statement}

@@ -1,6 +1,5 @@
 -- Before the day's start a minus stands in front of the minutes that are missing to it.
-use Rattle.laws.specs.Kit.{needs}
-use Rattle.laws.specs.Tests.Laws.{less-true, less-false}
+use Rattle.laws.specs.Kit.{needs, less-true, less-false}
 use Rattle.desk_text.specs.Numbers.{minuteText}
 use Rattle.desk_text.specs.Put.Laws.{then}
 use Rattle.desk_text.proofs.numbers.put_minute.Statement.{statement}

@@ -1,6 +1,5 @@
 -- Nothing, or the word and the number.
-use Rattle.laws.specs.Kit.{needs, arith}
-use Rattle.laws.specs.Tests.Laws.{is-equal, is-other}
+use Rattle.laws.specs.Kit.{needs, arith, is-equal, is-other}
 use Rattle.desk_text.specs.Pieces.{named}
 use Rattle.desk_text.proofs.pieces.put_named.Statement.{statement}
 use Rattle.desk_text.proofs.pieces.put_named.Tie as tie

@@ -1,6 +1,5 @@
 -- What is still to be put, over the line as it stands, gives what all of it gives over the line as it came; past its end nothing is put.
-use Rattle.laws.specs.Kit.{needs, arith, _≡_, refl, _≤_, _-_, _+_, length, drop}
-use lib.ListN.{length-set}
+use Rattle.laws.specs.Kit.{needs, arith, _≡_, refl, _≤_, _-_, _+_, length, drop, length-set}
 use Rattle.laws.specs.Bytes.{written}
 use Rattle.desk_text.proofs.Laws.{put-past, put-turn, put-full, put-end}
 use Rattle.desk_text.proofs.put.put.Statement.{statement}

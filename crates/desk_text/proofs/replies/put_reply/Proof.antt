@@ -1,7 +1,5 @@
 -- The code asks for the two other kinds first; each case is one of the definition.
-use Rattle.laws.specs.Kit.{needs, arith}
-use Rattle.laws.specs.Tests.{is}
-use Rattle.laws.specs.Tests.Laws.{is-equal, is-other}
+use Rattle.laws.specs.Kit.{needs, arith, is, is-equal, is-other}
 use Rattle.paper.specs.Listing.{text}
 use Rattle.desk_text.specs.Replies.{replyText}
 use Rattle.desk_text.specs.Put.Laws.{then}

@@ -1,6 +1,5 @@
 -- The two parties' tags, mixed as the definition has it.
-use Rattle.laws.specs.Kit.{needs, ap, _∙_}
-use mathlib.Core.Path.{ap₂}
+use Rattle.laws.specs.Kit.{needs, ap, _∙_, ap₂}
 use Rattle.index.specs.Tags.{mixed, tagOf, pairTagOf}
 use Rattle.index.proofs.tags.pair_tag_of.Statement.{statement}
 use Rattle.index.proofs.tags.pair_tag_of.Tie as tie

@@ -1,6 +1,5 @@
 -- The four numbers are those of the definition.
-use Rattle.laws.specs.Kit.{needs}
-use Rattle.laws.specs.Tests.Laws.{less-true, less-false}
+use Rattle.laws.specs.Kit.{needs, less-true, less-false}
 use Rattle.index.specs.Tags.{tagOf}
 use Rattle.index.proofs.tags.tag_of.Statement.{statement}
 use Rattle.index.proofs.tags.tag_of.Tie as tie

@@ -1,6 +1,5 @@
 -- No series passed by is refused, so that the first that is decides, and the end too.
-use Rattle.laws.specs.Kit.{[], _+_, _-_, _/_, _∙_, _≡_, _≤_, ap, arith, drop, length, refl, take}
-use denote.Ref.{now}
+use Rattle.laws.specs.Kit.{[], _+_, _-_, _/_, _∙_, _≡_, _≤_, ap, arith, drop, length, refl, take, now}
 use Rattle.laws.specs.Cut.{cut}
 use Rattle.laws.specs.Cut.Laws.{cut-length}
 use Rattle.laws.specs.Lists.{keep}

@@ -1,6 +1,5 @@
 -- The bytes still to write, over the block as it stands, give what all of them give over the block as it came.
-use Rattle.laws.specs.Kit.{arith, _≡_, refl, _≤_, _+_, _-_, length, drop}
-use lib.ListN.{length-set}
+use Rattle.laws.specs.Kit.{arith, _≡_, refl, _≤_, _+_, _-_, length, drop, length-set}
 use Rattle.laws.specs.Bytes.{written}
 use Rattle.layout.specs.Written.{padded, withField}
 use Rattle.layout.proofs.Laws.{pad-start, pad-more, pad-end}

@@ -1,6 +1,5 @@
 -- The code asks the definition's question.
-use Rattle.laws.specs.Kit.{needs}
-use Rattle.laws.specs.Tests.Laws.{is-equal, is-other}
+use Rattle.laws.specs.Kit.{needs, is-equal, is-other}
 use Rattle.message_text.specs.MessageText.{inBlock}
 use Rattle.message_text.proofs.fill.in_block.Statement.{statement}
 use Rattle.message_text.proofs.fill.in_block.Tie as tie

@@ -1,6 +1,5 @@
 -- The code asks the definition's questions in its order.
-use Rattle.laws.specs.Kit.{needs, arith, sym, _∙_}
-use Rattle.laws.specs.Tests.Laws.{is-equal, is-other}
+use Rattle.laws.specs.Kit.{needs, arith, sym, _∙_, is-equal, is-other}
 use Rattle.paper.specs.Listing.{text}
 use Rattle.message_text.specs.MessageText.{inSeries}
 use Rattle.message_text.proofs.fill.in_series.Statement.{statement}

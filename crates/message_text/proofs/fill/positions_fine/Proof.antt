@@ -1,6 +1,5 @@
 -- The code asks the definition's three questions.
-use Rattle.laws.specs.Kit.{refl}
-use Rattle.laws.specs.Tests.{_and_, less, upto}
+use Rattle.laws.specs.Kit.{refl, _and_, less, upto}
 use Rattle.message_text.proofs.fill.positions_fine.Statement.{statement}
 use Rattle.message_text.proofs.fill.positions_fine.Tie as tie
 

@@ -1,6 +1,5 @@
 -- The byte of a number is its remainder by 256.
-use Rattle.laws.specs.Kit.{needs, arith}
-use Rattle.laws.specs.Tests.{less}
+use Rattle.laws.specs.Kit.{needs, arith, less}
 use Rattle.message_text.specs.MessageText.{withN}
 use Rattle.message_text.proofs.fill.put_n.Statement.{statement}
 use Rattle.message_text.proofs.fill.put_n.Tie as tie

@@ -1,6 +1,5 @@
 -- Past both tests the positions are 1 to 100, and the quantity is written at each of them.
-use Rattle.laws.specs.Kit.{needs, arith, told, denied}
-use Rattle.laws.specs.Tests.Laws.{and-left, and-right, less-yes, upto-yes}
+use Rattle.laws.specs.Kit.{needs, arith, told, denied, and-left, and-right, less-yes, upto-yes}
 use Rattle.message_text.proofs.Laws.Fields.{positions-wrong, quantity-wrong, positions-right}
 use Rattle.message_text.proofs.fill.put_positions.Statement.{statement}
 use Rattle.message_text.proofs.fill.put_positions.Tie as tie

@@ -1,6 +1,5 @@
 -- The field is written, and the test is the definition's.
-use Rattle.laws.specs.Kit.{needs, arith}
-use Rattle.laws.specs.Tests.{_and_, less, upto}
+use Rattle.laws.specs.Kit.{needs, arith, _and_, less, upto}
 use Rattle.message_text.specs.MessageText.{withText}
 use Rattle.message_text.proofs.fill.put_text.Statement.{statement}
 use Rattle.message_text.proofs.fill.put_text.Tie as tie

@@ -1,6 +1,5 @@
 -- The two bytes of a number are those of its remainder by 65,536.
-use Rattle.laws.specs.Kit.{needs, arith}
-use Rattle.laws.specs.Tests.{less}
+use Rattle.laws.specs.Kit.{needs, arith, less}
 use Rattle.message_text.specs.MessageText.{withVersion}
 use Rattle.layout.specs.Written.{withVersion as versionWritten}
 use Rattle.layout.proofs.Laws.{little-2}

@@ -1,7 +1,5 @@
 -- The number so far and the digits ahead say what all digits say, and i digits stay below 10 to the i.
-use Rattle.laws.specs.Kit.{needs, arith, _≡_, _≤_, _<_, _-_, length, drop}
-use Prim.Native.Nat.{_^_}
-use denote.Ref.{now}
+use Rattle.laws.specs.Kit.{needs, arith, _≡_, _≤_, _<_, _-_, length, drop, _^_, now}
 use Rattle.paper.specs.QuantityText.{decimalFrom}
 use Rattle.quantity.proofs.Laws.Reading.{each-digit, decimal-turn, decimal-end, small-turn, small-end}
 use Rattle.quantity.proofs.digits.decimal_from.Statement.{statement}

@@ -1,6 +1,5 @@
 -- A digit is 48 to 57, so 48 can be taken off, and less than 10 is left.
-use Rattle.laws.specs.Kit.{needs, arith}
-use Rattle.laws.specs.Tests.Laws.{and-left, and-right, upto-yes}
+use Rattle.laws.specs.Kit.{needs, arith, and-left, and-right, upto-yes}
 use Rattle.paper.specs.Ids.{digit}
 use Rattle.quantity.proofs.digits.digit_value.Statement.{statement}
 use Rattle.quantity.proofs.digits.digit_value.Tie as tie

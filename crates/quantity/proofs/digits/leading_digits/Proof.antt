@@ -1,6 +1,5 @@
 -- All bytes passed by are digits; the first that is none ends the run.
-use Rattle.laws.specs.Kit.{needs, arith, _≡_, true, _≤_, _-_, length, take, told, denied}
-use Rattle.laws.specs.Tests.Laws.{and-both}
+use Rattle.laws.specs.Kit.{needs, arith, _≡_, true, _≤_, _-_, length, take, told, denied, and-both}
 use Rattle.laws.specs.Lists.{every}
 use Rattle.laws.specs.Lists.Each.{every-more}
 use Rattle.paper.specs.Ids.{digit}

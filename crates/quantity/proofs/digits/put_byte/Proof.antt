@@ -1,6 +1,5 @@
 -- A store past the end changes nothing, in the definition and in the code; the length is asked in two steps, so that no sum is too large.
-use Rattle.laws.specs.Kit.{needs, arith, sym}
-use lib.Seq.{set-out}
+use Rattle.laws.specs.Kit.{needs, arith, sym, set-out}
 use Rattle.quantity.proofs.digits.put_byte.Statement.{statement}
 use Rattle.quantity.proofs.digits.put_byte.Tie as tie
 

@@ -1,6 +1,5 @@
 -- Which of the two parties holds the pair is told by the places of their series, and so is what each holds.
-use Rattle.laws.specs.Kit.{needs, _∙_}
-use Rattle.laws.specs.Tests.{_and_, is}
+use Rattle.laws.specs.Kit.{needs, _∙_, _and_, is}
 use Rattle.readings.proofs.Laws.Held.{held-none, held-some}
 use Rattle.readings.proofs.finals.final_held.Statement.{statement}
 use Rattle.readings.proofs.finals.final_held.Tie as tie

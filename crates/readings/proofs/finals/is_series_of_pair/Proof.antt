@@ -1,6 +1,5 @@
 -- Where the sender's slot differs, the rest of the test does not matter.
-use Rattle.laws.specs.Kit.{needs, sym, told, denied}
-use Rattle.laws.specs.Tests.{_and_}
+use Rattle.laws.specs.Kit.{needs, sym, told, denied, _and_}
 use Rattle.paper.specs.Book.{isSeriesOf, pairIs, isSeriesOfPair}
 use Rattle.readings.proofs.finals.is_series_of_pair.Statement.{statement}
 use Rattle.readings.proofs.finals.is_series_of_pair.Tie as tie

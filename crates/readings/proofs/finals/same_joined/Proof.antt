@@ -1,8 +1,5 @@
 -- The field is cut where the first list ends, and each piece is compared with its list.
-use Rattle.laws.specs.Kit.{needs, sym, length}
-use lib.Seq.{length-take-le}
-use denote.Ref.{now}
-use Rattle.laws.specs.Tests.{_and_}
+use Rattle.laws.specs.Kit.{needs, sym, length, length-take-le, now, _and_}
 use Rattle.readings.proofs.Laws.Joined.{joined-short, joined-long}
 use Rattle.readings.proofs.finals.same_joined.Statement.{statement}
 use Rattle.readings.proofs.finals.same_joined.Tie as tie

@@ -1,6 +1,5 @@
 -- The code asks whether three names fill the body, and the answer told is the opening's with these.
-use Rattle.laws.specs.Kit.{arith, refl}
-use Rattle.laws.specs.Tests.Laws.{is-equal, is-other}
+use Rattle.laws.specs.Kit.{arith, refl, is-equal, is-other}
 use Rattle.replay_answers.specs.Answers.{openingOf, threeNames, openNumbers, openAfter}
 use Rattle.replay_answers.proofs.day_calls.open.Statement.{statement}
 use Rattle.replay_answers.proofs.day_calls.open.Tie as tie

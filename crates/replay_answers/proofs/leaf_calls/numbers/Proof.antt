@@ -1,7 +1,5 @@
 -- The code goes by the definition's cases.
-use Rattle.laws.specs.Kit.{arith}
-use Rattle.laws.specs.Tests.{is}
-use Rattle.laws.specs.Tests.Laws.{is-other}
+use Rattle.laws.specs.Kit.{arith, is, is-other}
 use Rattle.replay_answers.specs.Answers.{leafNumbers}
 use Rattle.replay_answers.proofs.leaf_calls.numbers.Statement.{statement}
 use Rattle.replay_answers.proofs.leaf_calls.numbers.Tie as tie

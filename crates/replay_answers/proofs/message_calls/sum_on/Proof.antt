@@ -1,6 +1,5 @@
 -- The sum so far and the bytes that are left still give the whole sum.
-use Rattle.laws.specs.Kit.{needs, arith, _≡_, sym, _∙_, _≤_, _-_, length, drop}
-use denote.Ref.{now}
+use Rattle.laws.specs.Kit.{needs, arith, _≡_, sym, _∙_, _≤_, _-_, length, drop, now}
 use Rattle.paper.specs.Check.{checkFrom}
 use Rattle.facts.specs.Check.{check-from-more, check-from-end}
 use Rattle.replay_answers.proofs.message_calls.sum_on.Statement.{statement}

@@ -1,6 +1,5 @@
 -- The code asks whether two bytes are left behind two names, and the answer told is the final value's of these.
-use Rattle.laws.specs.Kit.{arith}
-use Rattle.laws.specs.Tests.Laws.{is-equal, is-other}
+use Rattle.laws.specs.Kit.{arith, is-equal, is-other}
 use Rattle.replay_answers.specs.Answers.{finalTold, firstName, secondName, behindTwo, finalNumbers}
 use Rattle.replay_answers.proofs.reading_calls.final_value.Statement.{statement}
 use Rattle.replay_answers.proofs.reading_calls.final_value.Tie as tie

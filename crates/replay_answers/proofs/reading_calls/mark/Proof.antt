@@ -1,6 +1,5 @@
 -- The code asks whether two names fill the body, and the answer told is the mark's of these names.
-use Rattle.laws.specs.Kit.{arith}
-use Rattle.laws.specs.Tests.Laws.{is-equal, is-other}
+use Rattle.laws.specs.Kit.{arith, is-equal, is-other}
 use Rattle.replay_answers.specs.Answers.{markTold, firstName, secondName, behindTwo, twoNames, markNumbers}
 use Rattle.replay_answers.proofs.reading_calls.mark.Statement.{statement}
 use Rattle.replay_answers.proofs.reading_calls.mark.Tie as tie

@@ -1,6 +1,5 @@
 -- The code goes by the definition's cases.
-use Rattle.laws.specs.Tests.{is}
-use Rattle.laws.specs.Tests.Laws.{is-other}
+use Rattle.laws.specs.Kit.{is, is-other}
 use Rattle.replay_answers.specs.Answers.{readingNumbers}
 use Rattle.replay_answers.proofs.reading_calls.numbers.Statement.{statement}
 use Rattle.replay_answers.proofs.reading_calls.numbers.Tie as tie

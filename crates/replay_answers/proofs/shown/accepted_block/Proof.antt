@@ -1,6 +1,5 @@
 -- The code asks whether two names fill the body, and the block shown is the one accepted under these names.
-use Rattle.laws.specs.Kit.{arith}
-use Rattle.laws.specs.Tests.Laws.{is-equal, is-other}
+use Rattle.laws.specs.Kit.{arith, is-equal, is-other}
 use Rattle.desk_text.specs.Put.Laws.{none}
 use Rattle.replay_answers.specs.Answers.{firstName, secondName, behindTwo, twoNames, shownBlock, blockLine}
 use Rattle.replay_answers.proofs.shown.accepted_block.Statement.{statement}

@@ -1,7 +1,6 @@
 -- The code asks whether there is a quantity, and the buffer shown is the one printed into.
-use Rattle.laws.specs.Kit.{arith}
+use Rattle.laws.specs.Kit.{arith, less-true, less-false}
 use Rattle.laws.specs.Slices.{rest-slice}
-use Rattle.laws.specs.Tests.Laws.{less-true, less-false}
 use Rattle.desk_text.specs.Put.Laws.{none}
 use Rattle.replay_answers.specs.Answers.{printTold, printLine}
 use Rattle.replay_answers.proofs.shown.print.Statement.{statement}

@@ -1,6 +1,5 @@
 -- The code is the definition.
-use Rattle.laws.specs.Kit.{refl}
-use Rattle.laws.specs.Tests.{_or_, neg, is}
+use Rattle.laws.specs.Kit.{refl, _or_, neg, is}
 use Rattle.rules.specs.ByPlaces.{knownOtherwise}
 use Rattle.rules.proofs.form.known_otherwise.Statement.{statement}
 use Rattle.rules.proofs.form.known_otherwise.Tie as tie

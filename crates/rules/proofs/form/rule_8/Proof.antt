@@ -1,6 +1,5 @@
 -- The three tests are joined as the definition joins them.
-use Rattle.laws.specs.Kit.{arith}
-use Rattle.laws.specs.Tests.{_or_, neg}
+use Rattle.laws.specs.Kit.{arith, _or_, neg}
 use Rattle.paper.specs.Rules.{rule8}
 use Rattle.rules.proofs.form.rule_8.Statement.{statement}
 use Rattle.rules.proofs.form.rule_8.Tie as tie

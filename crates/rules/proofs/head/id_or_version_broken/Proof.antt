@@ -1,6 +1,5 @@
 -- Where the stored block is a sender's, its id and its version are asked for; where it is none, version 1.
-use Rattle.laws.specs.Kit.{_∙_, needs, sym}
-use Rattle.laws.specs.Tests.{_or_, is, less, neg}
+use Rattle.laws.specs.Kit.{_∙_, needs, sym, _or_, is, less, neg}
 use Rattle.paper.specs.Rules.{idOrVersionBroken}
 use Rattle.rules.proofs.head.id_or_version_broken.Statement.{statement}
 use Rattle.rules.proofs.head.id_or_version_broken.Tie as tie

@@ -1,6 +1,5 @@
 -- The code is the definition.
-use Rattle.laws.specs.Kit.{arith}
-use Rattle.laws.specs.Tests.{_and_, less, upto}
+use Rattle.laws.specs.Kit.{arith, _and_, less, upto}
 use Rattle.paper.specs.Rules.{rule11}
 use Rattle.rules.proofs.values.rule_11.Statement.{statement}
 use Rattle.rules.proofs.values.rule_11.Tie as tie

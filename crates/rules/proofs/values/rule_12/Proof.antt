@@ -1,6 +1,5 @@
 -- The code is the definition.
-use Rattle.laws.specs.Kit.{arith}
-use Rattle.laws.specs.Tests.{_and_, less}
+use Rattle.laws.specs.Kit.{arith, _and_, less}
 use Rattle.paper.specs.Rules.{rule12}
 use Rattle.rules.proofs.values.rule_12.Statement.{statement}
 use Rattle.rules.proofs.values.rule_12.Tie as tie

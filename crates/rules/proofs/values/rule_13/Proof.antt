@@ -1,6 +1,5 @@
 -- The code is the definition.
-use Rattle.laws.specs.Kit.{arith}
-use Rattle.laws.specs.Tests.{_and_, is, neg, upto}
+use Rattle.laws.specs.Kit.{arith, _and_, is, neg, upto}
 use Rattle.paper.specs.Rules.{rule13}
 use Rattle.rules.proofs.values.rule_13.Statement.{statement}
 use Rattle.rules.proofs.values.rule_13.Tie as tie

@@ -1,6 +1,5 @@
 -- Both tests are the definition's.
-use Rattle.laws.specs.Kit.{arith}
-use Rattle.laws.specs.Tests.{_and_, is, neg}
+use Rattle.laws.specs.Kit.{arith, _and_, is, neg}
 use Rattle.paper.specs.Rules.{rule14}
 use Rattle.rules.proofs.values.rule_14.Statement.{statement}
 use Rattle.rules.proofs.values.rule_14.Tie as tie

@@ -1,6 +1,5 @@
 -- The code is the definition, of the block at i.
-use Rattle.laws.specs.Kit.{arith}
-use Rattle.laws.specs.Tests.{_and_, is}
+use Rattle.laws.specs.Kit.{arith, _and_, is}
 use Rattle.rules.specs.ByPlaces.{absentBy}
 use Rattle.rules.proofs.whole.absent_at.Statement.{statement}
 use Rattle.rules.proofs.whole.absent_at.Tie as tie

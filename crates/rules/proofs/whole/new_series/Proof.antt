@@ -1,7 +1,5 @@
 -- The first i places are counted.
-use Rattle.laws.specs.Kit.{arith, _≡_, refl, _≤_, _-_, at-end, take}
-use denote.Ref.{now}
-use Rattle.laws.specs.Tests.{is}
+use Rattle.laws.specs.Kit.{arith, _≡_, refl, _≤_, _-_, at-end, take, now, is}
 use Rattle.laws.specs.Lists.{count}
 use Rattle.rules.proofs.Laws.{count-one-more}
 use Rattle.rules.proofs.whole.new_series.Statement.{statement}

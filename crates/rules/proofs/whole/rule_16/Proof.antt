@@ -1,8 +1,5 @@
 -- None below i is absent.
-use Rattle.laws.specs.Kit.{arith, _≡_, [], refl, _∙_, _≤_, _-_, _/_, not, length, getD, ap, at-end}
-use denote.Ref.{now}
-use Rattle.laws.specs.Tests.{neg, below}
-use Rattle.laws.specs.Loops.{below-go}
+use Rattle.laws.specs.Kit.{arith, _≡_, [], refl, _∙_, _≤_, _-_, _/_, not, length, getD, ap, at-end, now, neg, below, below-go}
 use Rattle.laws.specs.Cut.{cut}
 use Rattle.laws.specs.Cut.Laws.{cut-length}
 use Rattle.rules.specs.ByPlaces.{absentBy, rule16By}

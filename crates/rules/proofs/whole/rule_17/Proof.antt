@@ -1,7 +1,5 @@
 -- The sender's block is new where none is stored, and the new series are counted.
-use Rattle.laws.specs.Kit.{_+_, _∙_, ap, arith, cond}
-use mathlib.Core.Path.{ap₂}
-use Rattle.laws.specs.Tests.{less}
+use Rattle.laws.specs.Kit.{_+_, _∙_, ap, arith, cond, ap₂, less}
 use Rattle.rules.proofs.Laws.{one-unless}
 use Rattle.rules.specs.ByPlaces.{rule17By, newBlocksBy}
 use Rattle.rules.proofs.whole.rule_17.Statement.{statement}

@@ -1,7 +1,6 @@
 -- Both verdicts are on what the text is read as.
-use Rattle.laws.specs.Kit.{ap, _∙_, refl}
+use Rattle.laws.specs.Kit.{ap, _∙_, refl, _and_, is}
 use Rattle.laws.specs.Base.{ap₂}
-use Rattle.laws.specs.Tests.{_and_, is}
 use Rattle.paper.specs.declared.QuantityRead.{QuantityRead}
 use Rattle.site_leaves.specs.Leaves.{readsAs}
 use Rattle.site_leaves.proofs.leaves.read_as.Statement.{statement}

@@ -1,6 +1,5 @@
 -- The test told is the test answered.
-use Rattle.laws.specs.Kit.{refl}
-use Rattle.laws.specs.Tests.{is}
+use Rattle.laws.specs.Kit.{refl, is}
 use Rattle.site_leaves.proofs.line.number.Statement.{statement}
 use Rattle.site_leaves.proofs.line.number.Tie as tie
 

@@ -1,9 +1,7 @@
 -- Blocks up to i clash with none behind them, and the rest gives what is left to judge.
-use Rattle.laws.specs.Kit.{needs, _≡_, _-_, _/_, length, drop, step-cut-at, end-cut}
-use Rattle.laws.specs.Tests.{_and_}
+use Rattle.laws.specs.Kit.{needs, _≡_, _-_, _/_, length, drop, step-cut-at, end-cut, _and_, apart-start, apart-go, apart-end}
 use Rattle.laws.specs.Lists.{apart}
 use Rattle.laws.specs.Cut.{cut}
-use Rattle.laws.specs.Loops.{apart-start, apart-go, apart-end}
 use Rattle.sound.specs.Used.{clashes}
 use Rattle.sound.proofs.apart.blocks_apart.Statement.{statement}
 use Rattle.sound.proofs.apart.blocks_apart.Tie as tie

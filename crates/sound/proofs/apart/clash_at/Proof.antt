@@ -1,6 +1,5 @@
 -- Where both tags differ, neither the ids nor the pairs nor the senders' EICs are the same.
-use Rattle.laws.specs.Kit.{needs, _∙_}
-use mathlib.Core.Path.{ap₂}
+use Rattle.laws.specs.Kit.{needs, _∙_, ap₂}
 use Rattle.sound.specs.Used.{clashes}
 use Rattle.sound.proofs.Laws.Tags.{tags-apart}
 use Rattle.sound.proofs.apart.clash_at.Statement.{statement}

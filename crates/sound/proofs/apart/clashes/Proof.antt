@@ -1,6 +1,5 @@
 -- The tests are the definition's.
-use Rattle.laws.specs.Kit.{needs}
-use Rattle.laws.specs.Tests.{_or_}
+use Rattle.laws.specs.Kit.{needs, _or_}
 use Rattle.sound.specs.Used.{clashes}
 use Rattle.sound.proofs.apart.clashes.Statement.{statement}
 use Rattle.sound.proofs.apart.clashes.Tie as tie

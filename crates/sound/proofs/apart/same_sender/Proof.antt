@@ -1,6 +1,5 @@
 -- The tests are the definition's.
-use Rattle.laws.specs.Kit.{needs}
-use Rattle.laws.specs.Tests.{_and_}
+use Rattle.laws.specs.Kit.{needs, _and_}
 use Rattle.paper.specs.Sound.{sameSender}
 use Rattle.sound.proofs.apart.same_sender.Statement.{statement}
 use Rattle.sound.proofs.apart.same_sender.Tie as tie

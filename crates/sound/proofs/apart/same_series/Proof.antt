@@ -1,6 +1,5 @@
 -- The tests are the definition's.
-use Rattle.laws.specs.Kit.{needs}
-use Rattle.laws.specs.Tests.{_and_, _or_, is}
+use Rattle.laws.specs.Kit.{needs, _and_, _or_, is}
 use Rattle.paper.specs.Sound.{sameSeries}
 use Rattle.sound.proofs.apart.same_series.Statement.{statement}
 use Rattle.sound.proofs.apart.same_series.Tie as tie

@@ -1,6 +1,5 @@
 -- Where no two senders share an EIC, the sender's slot is where it stands, so its count is held to the series of that slot.
-use Rattle.laws.specs.Kit.{needs, sym, told, denied}
-use Rattle.laws.specs.Tests.{_and_, is}
+use Rattle.laws.specs.Kit.{needs, sym, told, denied, _and_, is}
 use Rattle.sound.proofs.Laws.Used.{own-count, no-count}
 use Rattle.sound.proofs.counts.count_right.Statement.{statement}
 use Rattle.sound.proofs.counts.count_right.Tie as tie

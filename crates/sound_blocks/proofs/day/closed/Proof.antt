@@ -1,6 +1,5 @@
 -- Both sides of the comparison are the definition's.
-use Rattle.laws.specs.Kit.{needs, arith}
-use Rattle.laws.specs.Tests.{neg, upto}
+use Rattle.laws.specs.Kit.{needs, arith, neg, upto}
 use Rattle.paper.specs.Rules.{isOpen, closed}
 use Rattle.sound_blocks.proofs.day.closed.Statement.{statement}
 use Rattle.sound_blocks.proofs.day.closed.Tie as tie

@@ -1,6 +1,5 @@
 -- The tests are the definition's.
-use Rattle.laws.specs.Kit.{needs}
-use Rattle.laws.specs.Tests.{_and_}
+use Rattle.laws.specs.Kit.{needs, _and_}
 use Rattle.paper.specs.Sound.{daySound}
 use Rattle.sound_blocks.proofs.day.day_sound.Statement.{statement}
 use Rattle.sound_blocks.proofs.day.day_sound.Tie as tie

@@ -1,6 +1,5 @@
 -- The entries up to n, and the positions above n as one part.
-use Rattle.laws.specs.Kit.{needs}
-use Rattle.laws.specs.Tests.{_and_}
+use Rattle.laws.specs.Kit.{needs, _and_}
 use Rattle.paper.specs.Layout.{net, quantity}
 use Rattle.paper.specs.Ranges.{netsAllowed}
 use Rattle.sound_blocks.specs.Entries.{entryAllowed}

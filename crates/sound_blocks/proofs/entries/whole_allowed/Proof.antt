@@ -1,7 +1,5 @@
 -- Those below k are judged; at n all are.
-use Rattle.laws.specs.Kit.{needs, arith, _≡_, _≤_, _-_, at-end}
-use Rattle.laws.specs.Tests.{_and_, below}
-use Rattle.laws.specs.Tests.Laws.{below-more}
+use Rattle.laws.specs.Kit.{needs, arith, _≡_, _≤_, _-_, at-end, _and_, below, below-more}
 use Rattle.paper.specs.Layout.{quantity}
 use Rattle.sound_blocks.specs.Entries.{entryAllowed}
 use Rattle.sound_blocks.proofs.entries.whole_allowed.Statement.{statement}

@@ -1,6 +1,5 @@
 -- The three numbers are the definition's.
-use Rattle.laws.specs.Kit.{needs}
-use Rattle.laws.specs.Tests.{_or_, is}
+use Rattle.laws.specs.Kit.{needs, _or_, is}
 use Rattle.paper.specs.Ranges.{nAllowed}
 use Rattle.sound_blocks.proofs.ranges.n_allowed.Statement.{statement}
 use Rattle.sound_blocks.proofs.ranges.n_allowed.Tie as tie

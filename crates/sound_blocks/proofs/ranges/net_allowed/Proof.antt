@@ -1,6 +1,5 @@
 -- The bounds are the definition's.
-use Rattle.laws.specs.Kit.{needs}
-use Rattle.laws.specs.Tests.{_or_, upto}
+use Rattle.laws.specs.Kit.{needs, _or_, upto}
 use Rattle.paper.specs.Ranges.{netAllowed}
 use Rattle.sound_blocks.proofs.ranges.net_allowed.Statement.{statement}
 use Rattle.sound_blocks.proofs.ranges.net_allowed.Tie as tie

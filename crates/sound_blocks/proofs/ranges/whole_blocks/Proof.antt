@@ -1,6 +1,5 @@
 -- The three tests of the length are the definition's.
-use Rattle.laws.specs.Kit.{needs}
-use Rattle.laws.specs.Tests.{_and_, is, upto}
+use Rattle.laws.specs.Kit.{needs, _and_, is, upto}
 use Rattle.paper.specs.Ranges.{wholeBlocks}
 use Rattle.sound_blocks.proofs.ranges.whole_blocks.Statement.{statement}
 use Rattle.sound_blocks.proofs.ranges.whole_blocks.Tie as tie

@@ -1,6 +1,5 @@
 -- The tests are the definition's.
-use Rattle.laws.specs.Kit.{needs, arith}
-use Rattle.laws.specs.Tests.{_and_}
+use Rattle.laws.specs.Kit.{needs, arith, _and_}
 use Rattle.paper.specs.Sound.{senderDayAndNets}
 use Rattle.sound_blocks.proofs.sender.sender_day.Statement.{statement}
 use Rattle.sound_blocks.proofs.sender.sender_day.Tie as tie

@@ -1,6 +1,5 @@
 -- The tests are the definition's.
-use Rattle.laws.specs.Kit.{needs}
-use Rattle.laws.specs.Tests.{_and_, is}
+use Rattle.laws.specs.Kit.{needs, _and_, is}
 use Rattle.paper.specs.Sound.{senderFields}
 use Rattle.sound_blocks.proofs.sender.sender_fields.Statement.{statement}
 use Rattle.sound_blocks.proofs.sender.sender_fields.Tie as tie

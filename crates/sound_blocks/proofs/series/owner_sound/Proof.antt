@@ -1,6 +1,5 @@
 -- The tests are the definition's.
-use Rattle.laws.specs.Kit.{needs, refl}
-use Rattle.laws.specs.Tests.{_and_}
+use Rattle.laws.specs.Kit.{needs, refl, _and_}
 use Rattle.paper.specs.Sound.{ownerSound}
 use Rattle.sound_blocks.proofs.series.owner_sound.Statement.{statement}
 use Rattle.sound_blocks.proofs.series.owner_sound.Tie as tie

@@ -1,6 +1,5 @@
 -- The two parts are the parties, and the tests are the definition's.
-use Rattle.laws.specs.Kit.{needs, arith, _≡_, refl, length, take, drop}
-use Rattle.laws.specs.Tests.{_and_, _or_, neg}
+use Rattle.laws.specs.Kit.{needs, arith, _≡_, refl, length, take, drop, _and_, _or_, neg}
 use Rattle.laws.specs.Bytes.{part}
 use Rattle.laws.specs.Bytes.Laws.{part-rest}
 use Rattle.paper.specs.Layout.{Bytes}

@@ -1,6 +1,5 @@
 -- The tests are the definition's.
-use Rattle.laws.specs.Kit.{needs, refl}
-use Rattle.laws.specs.Tests.{_or_, is}
+use Rattle.laws.specs.Kit.{needs, refl, _or_, is}
 use Rattle.paper.specs.Sound.{partnerSound}
 use Rattle.sound_blocks.proofs.series.partner_sound.Statement.{statement}
 use Rattle.sound_blocks.proofs.series.partner_sound.Tie as tie

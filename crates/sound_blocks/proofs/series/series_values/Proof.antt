@@ -1,6 +1,5 @@
 -- The tests are the definition's.
-use Rattle.laws.specs.Kit.{needs, arith}
-use Rattle.laws.specs.Tests.{_and_, upto}
+use Rattle.laws.specs.Kit.{needs, arith, _and_, upto}
 use Rattle.paper.specs.Sound.{seriesValues}
 use Rattle.sound_blocks.proofs.series.series_values.Statement.{statement}
 use Rattle.sound_blocks.proofs.series.series_values.Tie as tie

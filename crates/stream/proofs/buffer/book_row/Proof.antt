@@ -1,6 +1,5 @@
 -- A line past the buffer's end is none; the others have the bytes that stand there.
-use Rattle.laws.specs.Kit.{arith}
-use Rattle.laws.specs.Tests.Laws.{is-equal, is-other}
+use Rattle.laws.specs.Kit.{arith, is-equal, is-other}
 use Rattle.desk_text.specs.Put.Laws.{none}
 use Rattle.stream.specs.Buffer.{rowOf, bookRow}
 use Rattle.stream.specs.Buffer.Laws.{row-past}

@@ -1,6 +1,5 @@
 -- The code asks of what lies behind the offset whether the bytes pass it, so that no sum passes the largest number.
-use Rattle.laws.specs.Kit.{arith, _+_}
-use Rattle.laws.specs.Tests.Laws.{upto-true, upto-false}
+use Rattle.laws.specs.Kit.{arith, _+_, upto-true, upto-false}
 use Rattle.stream.specs.Buffer.{bytesNumbers}
 use Rattle.stream.proofs.buffer.bytes_told.Statement.{statement}
 use Rattle.stream.proofs.buffer.bytes_told.Tie as tie

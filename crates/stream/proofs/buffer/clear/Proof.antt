@@ -1,6 +1,5 @@
 -- What is set to 0 from the next byte on still gives the whole.
-use Rattle.laws.specs.Kit.{needs, arith, _≡_, refl, sym, _∙_, _-_, length}
-use lib.ListN.{replicate}
+use Rattle.laws.specs.Kit.{needs, arith, _≡_, refl, sym, _∙_, _-_, length, replicate}
 use Rattle.laws.specs.Bytes.{written}
 use Rattle.stream.specs.Buffer.Laws.{clear-more, clear-end}
 use Rattle.stream.proofs.buffer.clear.Statement.{statement}

@@ -1,6 +1,5 @@
 -- The code goes by the definition's cases.
-use Rattle.laws.specs.Kit.{arith}
-use Rattle.laws.specs.Tests.Laws.{is-equal, is-other}
+use Rattle.laws.specs.Kit.{arith, is-equal, is-other}
 use Rattle.stream.specs.Buffer.{bufferNumbers}
 use Rattle.stream.proofs.buffer.numbers.Statement.{statement}
 use Rattle.stream.proofs.buffer.numbers.Tie as tie

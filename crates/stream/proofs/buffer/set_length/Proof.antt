@@ -1,6 +1,5 @@
 -- A length that the buffer has room for is told, and the bytes gained are cleared; any other leaves the buffer as it was.
-use Rattle.laws.specs.Kit.{arith, refl}
-use Rattle.laws.specs.Tests.Laws.{upto-true, upto-false}
+use Rattle.laws.specs.Kit.{arith, refl, upto-true, upto-false}
 use Rattle.stream.specs.Buffer.{lengthNumbers, lengthAfter}
 use Rattle.stream.proofs.buffer.set_length.Statement.{statement}
 use Rattle.stream.proofs.buffer.set_length.Tie as tie

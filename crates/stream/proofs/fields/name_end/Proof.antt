@@ -1,7 +1,5 @@
 -- Each way out is a clause of the definition's test; past them all the name ends inside the body.
-use Rattle.laws.specs.Kit.{needs, arith, _≡_, true, ℕ, List, _≤_, _<_, _+_, length}
-use Rattle.laws.specs.Tests.{_or_, less, upto}
-use Rattle.laws.specs.Tests.Laws.{or-no, or-yes-left, or-yes-right, less-true, less-false, upto-true, upto-false}
+use Rattle.laws.specs.Kit.{needs, arith, _≡_, true, ℕ, List, _≤_, _<_, _+_, length, _or_, less, upto, or-no, or-yes-left, or-yes-right, less-true, less-false, upto-true, upto-false}
 use Rattle.laws.specs.Bytes.{number}
 use Rattle.stream.specs.Fields.{nameEnd}
 use Rattle.stream.proofs.fields.name_end.Statement.{statement}

@@ -1,6 +1,5 @@
 -- The code's two tables are the definition's.
-use Rattle.laws.specs.Kit.{needs, arith}
-use Rattle.laws.specs.Tests.{_and_, upto}
+use Rattle.laws.specs.Kit.{needs, arith, _and_, upto}
 use Rattle.stream.specs.Records.{fewest, most, lawful}
 use Rattle.stream.proofs.input.lawful.Statement.{statement}
 use Rattle.stream.proofs.input.lawful.Tie as tie

@@ -1,6 +1,5 @@
 -- The code asks the definition's question, of the numbers that are told.
-use Rattle.laws.specs.Kit.{needs, arith}
-use Rattle.laws.specs.Tests.Laws.{is-equal, is-other}
+use Rattle.laws.specs.Kit.{needs, arith, is-equal, is-other}
 use Rattle.desk_text.specs.Put.Laws.{none}
 use Rattle.stream.specs.Line.{toldLine}
 use Rattle.stream.proofs.line.answer.Statement.{statement}

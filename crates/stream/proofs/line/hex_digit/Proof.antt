@@ -1,6 +1,5 @@
 -- The code asks the definition's question.
-use Rattle.laws.specs.Kit.{arith}
-use Rattle.laws.specs.Tests.Laws.{less-true, less-false}
+use Rattle.laws.specs.Kit.{arith, less-true, less-false}
 use Rattle.stream.specs.Line.{hexDigit}
 use Rattle.stream.proofs.line.hex_digit.Statement.{statement}
 use Rattle.stream.proofs.line.hex_digit.Tie as tie

@@ -1,6 +1,5 @@
 -- No bytes are no text; others stand behind the space.
-use Rattle.laws.specs.Kit.{needs, arith}
-use Rattle.laws.specs.Tests.Laws.{is-equal, is-other}
+use Rattle.laws.specs.Kit.{needs, arith, is-equal, is-other}
 use Rattle.desk_text.specs.Put.Laws.{none, then}
 use Rattle.stream.specs.Line.{bytesText}
 use Rattle.stream.proofs.line.put_bytes.Statement.{statement}

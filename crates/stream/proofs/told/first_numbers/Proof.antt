@@ -1,7 +1,5 @@
 -- Where they are no more than n, the first n are all.
-use Rattle.laws.specs.Kit.{needs, arith, sym, _≤_, length}
-use lib.Seq.{take-all, length-take-le}
-use denote.Ref.{now}
+use Rattle.laws.specs.Kit.{needs, arith, sym, _≤_, length, take-all, length-take-le, now}
 use Rattle.stream.proofs.told.first_numbers.Statement.{statement}
 use Rattle.stream.proofs.told.first_numbers.Tie as tie
 
