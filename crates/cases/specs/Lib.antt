@@ -4,4 +4,5 @@ pub mod Case
 pub mod Examples
 -- the cases marked P
 pub mod Proved
+pub mod Characters
 pub mod Listing

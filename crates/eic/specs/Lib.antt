@@ -1,3 +1,2 @@
--- What the code hands down inside a call: the table, and the sum of a pass.
-pub mod Table
-pub mod Sum
+-- What the code hands down inside a call: the characters' values.
+pub mod Values

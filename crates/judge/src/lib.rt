@@ -7,7 +7,6 @@ ghost use Rattle.paper.specs.Layout.{sender};
 ghost use Rattle.paper.specs.Book.{slotOf};
 ghost use Rattle.paper.specs.Message.{headOf, seriesOf};
 ghost use Rattle.paper.specs.Rules.{broken, headVerdict, verdict};
-ghost use Rattle.eic.specs.Table.{IsTable};
 ghost use Rattle.index.specs.declared.By.the-variants.{Pair};
 ghost use Rattle.index.specs.Linked.{Found};
 ghost use Rattle.judge.specs.Order.{lastVerdictOf};
@@ -17,7 +16,6 @@ pub mod order;
 pub mod positions;
 pub mod series;
 
-use eic::values;
 use field::part_of;
 use index::By;
 use index::IN_MESSAGE;
@@ -43,13 +41,12 @@ use slots::used_part;
 use sound::sound;
 
 // Rules 3 to 6 cost little beside the series: all four are judged, and the first broken one is named.
-fn head_verdict(table: &[u8; 256], d: &[u8], known: &[u8], h: &[u8]) -> Verdict
-    requires { ⌜ IsTable (now table) ⌝ }
+fn head_verdict(d: &[u8], known: &[u8], h: &[u8]) -> Verdict
     ensures { λ r. ⌜ r ≡ headVerdict (now (d .entry)) (now (known .entry)) (now (h .entry)) ⌝ }
 {
     first_of_four(
         rule_3(d, h),
-        rule_4(table, h),
+        rule_4(h),
         rule_5(d, h),
         rule_6(known, h),
         3,
@@ -87,7 +84,6 @@ fn last_verdict(
 // "Past rule 1, a submission's answer depends only on" what is handed in here: of the used slots, the sender's own. Where each series of the message is
 // stored, and which of them each used slot has, is handed on to the acceptance.
 fn judge_from(
-    table: &[u8; 256],
     d: &[u8],
     us: &[u8],
     standing: Standing,
@@ -95,15 +91,15 @@ fn judge_from(
     places: &mut [u16; 1000],
     numbers: &mut [u16; 1000],
 ) -> Verdict
-    requires { ⌜ IsTable (now table) × (standing .slot ≡ slotOf (cut 512 (now us)) (sender (headOf (now message)))) × Taken (cut 512 (now us)) (seriesOf (now message)) × (length (now places) ≡ 1000) × (length (now numbers) ≡ 1000) ⌝ }
+    requires { ⌜ (standing .slot ≡ slotOf (cut 512 (now us)) (sender (headOf (now message)))) × Taken (cut 512 (now us)) (seriesOf (now message)) × (length (now places) ≡ 1000) × (length (now numbers) ≡ 1000) ⌝ }
     ensures { λ r. ⌜ JudgedFrom r (now (d .entry)) (cut 512 (now (us .entry))) (standing .slot) (standing .free) (now (message .entry)) (now (places .exit)) (now (numbers .exit)) ⌝ }
 {
     let slot = standing.slot;
-    let head = head_verdict(table, d, numbered(us, Slot(slot)), head_of(message));
+    let head = head_verdict(d, numbered(us, Slot(slot)), head_of(message));
     if head.number != 0 {
         return head;
     }
-    let walked = walk(table, d, us, Slot(slot), message, places);
+    let walked = walk(d, us, Slot(slot), message, places);
     if walked.number != 0 {
         return walked;
     }
@@ -146,7 +142,6 @@ pub fn judge_book(
     if rule_2(message) {
         return refused(2);
     }
-    let table = values();
     let us = used_part(book);
     let used = us.len() / 512;
     let slot = slot_of(us, sender(head_of(message))).0;
@@ -155,7 +150,7 @@ pub fn judge_book(
         free: book.len() / 512 - 1 - used,
     };
     let d = part_of(book, 0, 512);
-    let verdict = judge_from(&table, d, us, standing, message, places, numbers);
+    let verdict = judge_from(d, us, standing, message, places, numbers);
     Judged {
         verdict,
         used,

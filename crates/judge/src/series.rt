@@ -4,7 +4,6 @@ ghost use lib.ListN.{length};
 ghost use Rattle.laws.specs.Cut.{cut};
 ghost use Rattle.paper.specs.Message.{seriesOf};
 ghost use Rattle.paper.specs.Rules.{valuesVerdict};
-ghost use Rattle.eic.specs.Table.{IsTable};
 ghost use Rattle.judge.specs.Order.{formBy, seriesBy, eachSeriesOf};
 ghost use Rattle.judge.specs.Looked.{Taken, LookedIn, Walked};
 use super::order::broken;
@@ -32,20 +31,12 @@ use slots::block_at;
 use slots::numbered;
 
 // Rules 7 to 10: s is the number of y, and `otherwise` says that another series has its id or its pair.
-fn form_verdict(
-    table: &[u8; 256],
-    d: &[u8],
-    h: &[u8],
-    otherwise: bool,
-    s: usize,
-    y: &[u8],
-) -> Verdict
-    requires { ⌜ IsTable (now table) ⌝ }
+fn form_verdict(d: &[u8], h: &[u8], otherwise: bool, s: usize, y: &[u8]) -> Verdict
     ensures { λ r. ⌜ r ≡ formBy (now (d .entry)) (now (h .entry)) otherwise s (now (y .entry)) ⌝ }
 {
     first_of_four(
         rule_7(y, otherwise),
-        rule_8(table, h, y),
+        rule_8(h, y),
         rule_9(d, y),
         rule_10(y),
         7,
@@ -64,19 +55,10 @@ fn values_verdict(d: &[u8], h: &[u8], x: &[u8], s: usize, y: &[u8]) -> Verdict
 }
 
 // x is what is stored of the series.
-fn series_verdict(
-    table: &[u8; 256],
-    d: &[u8],
-    h: &[u8],
-    x: &[u8],
-    otherwise: bool,
-    s: usize,
-    y: &[u8],
-) -> Verdict
-    requires { ⌜ IsTable (now table) ⌝ }
+fn series_verdict(d: &[u8], h: &[u8], x: &[u8], otherwise: bool, s: usize, y: &[u8]) -> Verdict
     ensures { λ r. ⌜ r ≡ seriesBy (now (d .entry)) (now (x .entry)) (now (h .entry)) otherwise s (now (y .entry)) ⌝ }
 {
-    let form = form_verdict(table, d, h, otherwise, s, y);
+    let form = form_verdict(d, h, otherwise, s, y);
     if form.number != 0 {
         return form;
     }
@@ -94,14 +76,13 @@ pub struct Searched {
 
 // In the order of the message, and no further than the first refusal. `places` has of each series the place of the stored one with its pair.
 fn each_series(
-    table: &[u8; 256],
     d: &[u8],
     us: &[u8],
     message: &[u8],
     found: Searched,
     places: &[u16; 1000],
 ) -> Verdict
-    requires { ⌜ IsTable (now table) × Taken (cut 512 (now us)) (seriesOf (now message)) × LookedIn (cut 512 (now us)) (seriesOf (now message)) found (now places) ⌝ }
+    requires { ⌜ Taken (cut 512 (now us)) (seriesOf (now message)) × LookedIn (cut 512 (now us)) (seriesOf (now message)) found (now places) ⌝ }
     ensures { λ r. ⌜ r ≡ eachSeriesOf (now (d .entry)) (cut 512 (now (us .entry))) (found .slot) (now (message .entry)) ⌝ }
 {
     let h = head_of(message);
@@ -118,7 +99,7 @@ fn each_series(
             place,
         );
         let x = numbered(us, Slot(wide(place)));
-        let v = series_verdict(table, d, h, x, otherwise, i + 1, block_at(series, i));
+        let v = series_verdict(d, h, x, otherwise, i + 1, block_at(series, i));
         if v.number != 0 {
             return v;
         }
@@ -128,15 +109,8 @@ fn each_series(
 }
 
 // The series with the same id or the same pair are found here, once, before the rules are judged.
-pub fn walk(
-    table: &[u8; 256],
-    d: &[u8],
-    us: &[u8],
-    slot: Slot,
-    message: &[u8],
-    places: &mut [u16; 1000],
-) -> Verdict
-    requires { ⌜ IsTable (now table) × Taken (cut 512 (now us)) (seriesOf (now message)) × (length (now places) ≡ 1000) ⌝ }
+pub fn walk(d: &[u8], us: &[u8], slot: Slot, message: &[u8], places: &mut [u16; 1000]) -> Verdict
+    requires { ⌜ Taken (cut 512 (now us)) (seriesOf (now message)) × (length (now places) ≡ 1000) ⌝ }
     ensures { λ r. ⌜ Walked r (now (d .entry)) (cut 512 (now (us .entry))) (slot .0) (now (message .entry)) (now (places .exit)) ⌝ }
 {
     let series = series_of(message);
@@ -153,5 +127,5 @@ pub fn walk(
         first_pairs,
         stored_ids,
     };
-    each_series(table, d, us, message, found, places)
+    each_series(d, us, message, found, places)
 }

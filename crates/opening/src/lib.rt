@@ -6,8 +6,7 @@ ghost use lib.ListN.{length, replicate};
 ghost use Rattle.paper.specs.Opening.{dayBlockOf, openingAllowed, openNumber, opened};
 ghost use Rattle.opening.specs.Sized.{Sized};
 use block::check::seal;
-use eic::eic_valid_with;
-use eic::values;
+use eic::eic_valid;
 use field::day_well_formed;
 use layout::write::write_day_fields;
 use sound_blocks::ranges::lead_allowed;
@@ -18,12 +17,7 @@ use sound_blocks::ranges::whole_blocks;
 fn opening_allowed(n: u8, lead: u16, day: &[u8], area: &[u8], receiver: &[u8]) -> bool
     ensures { λ r. ⌜ r ≡ openingAllowed (record { n = n; lead = lead; day = now (day .entry); area = now (area .entry); receiver = now (receiver .entry) }) ⌝ }
 {
-    let table = values();
-    n_allowed(n)
-        & lead_allowed(lead)
-        & day_well_formed(day)
-        & eic_valid_with(&table, area)
-        & eic_valid_with(&table, receiver)
+    n_allowed(n) & lead_allowed(lead) & day_well_formed(day) & eic_valid(area) & eic_valid(receiver)
 }
 
 fn zero(s: &mut [u8])

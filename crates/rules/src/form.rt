@@ -1,9 +1,8 @@
 // Rules 7 to 10: a series by itself, and beside the message's and the sender's stored series with its id or its pair.
 ghost use mathlib.Core.Path.{_≡_};
 ghost use Rattle.paper.specs.Rules.{rule8, rule9, rule10};
-ghost use Rattle.eic.specs.Table.{IsTable};
 ghost use Rattle.rules.specs.ByPlaces.{knownOtherwise, rule7By};
-use eic::eic_valid_with;
+use eic::eic_valid;
 use field::all_zero;
 use field::id_well_formed;
 use field::same;
@@ -44,13 +43,10 @@ pub fn rule_7(y: &[u8], otherwise: bool) -> bool
 }
 
 // Both codes are valid, they differ, and one is the sender's.
-pub fn rule_8(table: &[u8; 256], h: &[u8], y: &[u8]) -> bool
-    requires { ⌜ IsTable (now table) ⌝ }
+pub fn rule_8(h: &[u8], y: &[u8]) -> bool
     ensures { λ r. ⌜ r ≡ rule8 (now (h .entry)) (now (y .entry)) ⌝ }
 {
-    !eic_valid_with(table, in_party(y))
-        | !eic_valid_with(table, out_party(y))
-        | !parties_of(sender(h), pair(y))
+    !eic_valid(in_party(y)) | !eic_valid(out_party(y)) | !parties_of(sender(h), pair(y))
 }
 
 // Both areas are the book's one area.

@@ -1,8 +1,7 @@
 // Rules 3 to 6: the message's first block beside the day block, and beside the sender's stored block.
 ghost use mathlib.Core.Path.{_≡_};
 ghost use Rattle.paper.specs.Rules.{rule3, rule4, rule5, rule6, idOrVersionBroken};
-ghost use Rattle.eic.specs.Table.{IsTable};
-use eic::eic_valid_with;
+use eic::eic_valid;
 use field::id_well_formed;
 use field::same;
 use layout::day_of_book;
@@ -21,12 +20,11 @@ pub fn rule_3(d: &[u8], h: &[u8]) -> bool
     !same(receiver(h), receiver(d))
 }
 
-// The sender's code is checked before the sender is looked up: a code that is not valid has no slot. The table is lent, as rule 8 needs it for each series.
-pub fn rule_4(table: &[u8; 256], h: &[u8]) -> bool
-    requires { ⌜ IsTable (now table) ⌝ }
+// The sender's code is checked before the sender is looked up: a code that is not valid has no slot.
+pub fn rule_4(h: &[u8]) -> bool
     ensures { λ r. ⌜ r ≡ rule4 (now (h .entry)) ⌝ }
 {
-    !eic_valid_with(table, sender(h))
+    !eic_valid(sender(h))
 }
 
 // Day and n are the book's, so that position k of the message is position k of the book.

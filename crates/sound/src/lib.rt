@@ -6,7 +6,6 @@ ghost use Rattle.laws.specs.Lists.{every};
 ghost use Rattle.laws.specs.Cut.{cut};
 ghost use Rattle.paper.specs.Layout.{nOf};
 ghost use Rattle.paper.specs.Sound.{sound};
-ghost use Rattle.eic.specs.Table.{IsTable};
 ghost use Rattle.sound.specs.Used.{usedFields, linkedSound, eachUsed, filledSound};
 ghost use Rattle.sound.specs.Links.{Grouped};
 
@@ -17,7 +16,6 @@ mod links;
 use apart::blocks_apart;
 use block::check::checks_right;
 use counts::counts_right;
-use eic::values;
 use field::all_zero;
 use field::part_of;
 use index::no_heads;
@@ -35,25 +33,25 @@ use sound_blocks::sender::sender_day;
 use sound_blocks::sender::sender_fields;
 use sound_blocks::series::series_sound;
 
-fn used_fields(table: &[u8; 256], d: &[u8], us: &[u8], b: &[u8]) -> bool
-    requires { ⌜ IsTable (now table) × (nOf (now d) ≤ 100) ⌝ }
+fn used_fields(d: &[u8], us: &[u8], b: &[u8]) -> bool
+    requires { ⌜ (nOf (now d) ≤ 100) ⌝ }
     ensures { λ r. ⌜ r ≡ usedFields (now (d .entry)) (cut 512 (now (us .entry))) (now (b .entry)) ⌝ }
 {
     if is_sender(b) {
-        return sender_fields(table, d, b) & sender_day(d, b);
+        return sender_fields(d, b) & sender_day(d, b);
     }
-    is_series(b) & series_sound(table, d, us, b)
+    is_series(b) & series_sound(d, us, b)
 }
 
-fn all_fields(table: &[u8; 256], d: &[u8], us: &[u8]) -> bool
-    requires { ⌜ IsTable (now table) × (nOf (now d) ≤ 100) ⌝ }
+fn all_fields(d: &[u8], us: &[u8]) -> bool
+    requires { ⌜ (nOf (now d) ≤ 100) ⌝ }
     ensures { λ r. ⌜ r ≡ every (usedFields (now (d .entry)) (cut 512 (now (us .entry)))) (cut 512 (now (us .entry))) ⌝ }
 {
     let blocks = us.len() / 512;
     let mut ok = true;
     let mut i = 0;
     while i < blocks {
-        ok = ok & used_fields(table, d, us, block_at(us, i));
+        ok = ok & used_fields(d, us, block_at(us, i));
         i += 1;
     }
     ok
@@ -76,11 +74,11 @@ fn linked_sound(us: &[u8]) -> bool
     counts_right(us, &heads, &nexts)
 }
 
-fn each_used(table: &[u8; 256], d: &[u8], us: &[u8]) -> bool
-    requires { ⌜ IsTable (now table) × (nOf (now d) ≤ 100) × (length (now us) / 512 ≤ 1000) ⌝ }
+fn each_used(d: &[u8], us: &[u8]) -> bool
+    requires { ⌜ (nOf (now d) ≤ 100) × (length (now us) / 512 ≤ 1000) ⌝ }
     ensures { λ r. ⌜ r ≡ eachUsed (now (d .entry)) (cut 512 (now (us .entry))) ⌝ }
 {
-    if !all_fields(table, d, us) {
+    if !all_fields(d, us) {
         return false;
     }
     linked_sound(us)
@@ -94,12 +92,11 @@ fn filled_sound(filled: &[u8]) -> bool
     if !checks_right(filled) {
         return false;
     }
-    let table = values();
     let d = part_of(filled, 0, 512);
-    if !day_sound(&table, d) {
+    if !day_sound(d) {
         return false;
     }
-    each_used(&table, d, &filled[512..])
+    each_used(d, &filled[512..])
 }
 
 // "Used slots first, free ones after": behind the used slots all bytes are 0, and the check of a free slot is right.

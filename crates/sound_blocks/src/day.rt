@@ -3,11 +3,10 @@ ghost use mathlib.Core.Path.{_≡_};
 ghost use Prim.Native.Nat.{_≤_};
 ghost use Rattle.paper.specs.Sound.{dayFields, daySound};
 ghost use Rattle.paper.specs.Rules.{closed};
-ghost use Rattle.eic.specs.Table.{IsTable};
 use super::ranges::clock_allowed;
 use super::ranges::lead_allowed;
 use super::ranges::n_allowed;
-use eic::eic_valid_with;
+use eic::eic_valid;
 use field::day_well_formed;
 use layout::area;
 use layout::clock;
@@ -30,14 +29,10 @@ fn day_fields(d: &[u8]) -> bool
 }
 
 // An opening asks the same of the block that it is about to write.
-pub fn day_sound(table: &[u8; 256], d: &[u8]) -> bool
-    requires { ⌜ IsTable (now table) ⌝ }
+pub fn day_sound(d: &[u8]) -> bool
     ensures { λ r. ⌜ r ≡ daySound (now (d .entry)) ⌝ }
 {
-    day_fields(d)
-        & eic_valid_with(table, area(d))
-        & eic_valid_with(table, receiver(d))
-        & day_zeros(d)
+    day_fields(d) & eic_valid(area(d)) & eic_valid(receiver(d)) & day_zeros(d)
 }
 
 // "Position p is open exactly when clock + lead ≤ 15 × (p − 1)." Clock and lead together need more than the two bytes that each has.

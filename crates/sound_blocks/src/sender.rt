@@ -3,10 +3,9 @@ ghost use mathlib.Core.Path.{_≡_};
 ghost use Prim.Native.Nat.{_≤_};
 ghost use Rattle.paper.specs.Layout.{nOf};
 ghost use Rattle.paper.specs.Sound.{senderFields, senderDayAndNets};
-ghost use Rattle.eic.specs.Table.{IsTable};
 use super::entries::nets_allowed;
 use super::ranges::version_allowed;
-use eic::eic_valid_with;
+use eic::eic_valid;
 use field::id_well_formed;
 use field::same;
 use layout::day_of_book;
@@ -18,14 +17,13 @@ use layout::sender;
 use layout::sender_zeros;
 use layout::version;
 
-pub fn sender_fields(table: &[u8; 256], d: &[u8], s: &[u8]) -> bool
-    requires { ⌜ IsTable (now table) ⌝ }
+pub fn sender_fields(d: &[u8], s: &[u8]) -> bool
     ensures { λ r. ⌜ r ≡ senderFields (now (d .entry)) (now (s .entry)) ⌝ }
 {
     (n_of(s) == n_of(d))
         & version_allowed(version(s))
         & id_well_formed(id_of(s))
-        & eic_valid_with(table, sender(s))
+        & eic_valid(sender(s))
         & sender_zeros(s)
 }
 

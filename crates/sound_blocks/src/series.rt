@@ -4,10 +4,9 @@ ghost use Prim.Native.Nat.{_≤_};
 ghost use Rattle.laws.specs.Cut.{cut};
 ghost use Rattle.paper.specs.Layout.{nOf};
 ghost use Rattle.paper.specs.Sound.{partiesOf, ownerSound, partnerSound, seriesFields, seriesCodes, seriesValues, seriesSound};
-ghost use Rattle.eic.specs.Table.{IsTable};
 use super::entries::quantities_allowed;
 use super::ranges::version_allowed;
-use eic::eic_valid_with;
+use eic::eic_valid;
 use field::all_zero;
 use field::id_well_formed;
 use field::part_of;
@@ -65,15 +64,14 @@ fn series_fields(d: &[u8], x: &[u8]) -> bool
         & id_well_formed(id_of(x))
 }
 
-fn series_codes(table: &[u8; 256], d: &[u8], x: &[u8]) -> bool
-    requires { ⌜ IsTable (now table) ⌝ }
+fn series_codes(d: &[u8], x: &[u8]) -> bool
     ensures { λ r. ⌜ r ≡ seriesCodes (now (d .entry)) (now (x .entry)) ⌝ }
 {
     let own = area(d);
     same(in_area(x), own)
         & same(out_area(x), own)
-        & eic_valid_with(table, in_party(x))
-        & eic_valid_with(table, out_party(x))
+        & eic_valid(in_party(x))
+        & eic_valid(out_party(x))
         & all_zero(agreement(x))
 }
 
@@ -85,12 +83,12 @@ fn series_values(d: &[u8], x: &[u8]) -> bool
     (1 <= state(x)) & (state(x) <= 3) & (first(x).0 <= n) & quantities_allowed(n, x)
 }
 
-pub fn series_sound(table: &[u8; 256], d: &[u8], us: &[u8], x: &[u8]) -> bool
-    requires { ⌜ IsTable (now table) × (nOf (now d) ≤ 100) ⌝ }
+pub fn series_sound(d: &[u8], us: &[u8], x: &[u8]) -> bool
+    requires { ⌜ (nOf (now d) ≤ 100) ⌝ }
     ensures { λ r. ⌜ r ≡ seriesSound (now (d .entry)) (cut 512 (now (us .entry))) (now (x .entry)) ⌝ }
 {
     series_fields(d, x)
-        & series_codes(table, d, x)
+        & series_codes(d, x)
         & series_values(d, x)
         & owner_sound(us, x)
         & partner_sound(us, x)

@@ -19,15 +19,13 @@ returns-2 c =
 
 judge-from-requires : tie.Need-judge-from-requires
 judge-from-requires c κs =
-    let k = c .before .before .before .before in
+    let k = c .before .before .before in
     let h = k .before .before in
     let u = h .before in
-    let v = u .before in
-    let r = v .before .before in
+    let r = u .before .before in
     let a = r .before .before .before .before .before in (
-      v .values .ensures,
       k .slot-of .ensures ∙ ap (slotOf _) (k .before .sender .ensures ∙ ap sender (h .head-of .ensures)),
-      taken _ _ (told (r .before .before .sound .ensures) (r .before .if1 .left)) (sym (r .rule-2 .ensures) ∙ v .before .if2 .left) (u .used-part .ensures .0),
+      taken _ _ (told (r .before .before .sound .ensures) (r .before .if1 .left)) (sym (r .rule-2 .ensures) ∙ u .before .if2 .left) (u .used-part .ensures .0),
       a .pre .0,
       a .pre .1,
     )
@@ -35,16 +33,15 @@ judge-from-requires c κs =
 returns-3 : tie.Need-returns-3
 unfolding dayBlock part
 returns-3 c =
-    let d = c .before .before .before .before in
+    let d = c .before .before .before in
     let k = d .before in
     let h = k .before .before in
     let u = h .before in
-    let v = u .before in
-    let r = v .before .before in
+    let r = u .before .before in
     let right = told (r .before .before .sound .ensures) (r .before .if1 .left) in
     judged-book _ _ (now (u .used-part .result)) (u .used-part .ensures .0)
     (k .slot-of .ensures ∙ ap (slotOf _) (k .before .sender .ensures ∙ ap sender (h .head-of .ensures))) (c .judge-from .ensures)
-    (judged-by _ _ right (sym (r .rule-2 .ensures) ∙ v .before .if2 .left) (d .part-of .ensures) (u .used-part .ensures .0) (free-count _ _ (u .used-part .ensures .0) right) (c .judge-from .ensures .verdict))
+    (judged-by _ _ right (sym (r .rule-2 .ensures) ∙ u .before .if2 .left) (d .part-of .ensures) (u .used-part .ensures .0) (free-count _ _ (u .used-part .ensures .0) right) (c .judge-from .ensures .verdict))
 
 pub judge-book-spec : {M : Type 1} → statement M
 judge-book-spec =
@@ -60,9 +57,8 @@ judge-book-spec =
     (λ c κs. tt)
     (λ c κs. tt)
     (λ c κs. tt)
-    (λ c κs. tt)
     (λ c.
-    let r = c .before .before .before .before .before .before in
+    let r = c .before .before .before .before .before in
     omega (arith, sound-says _ (told (r .before .before .sound .ensures) (r .before .if1 .left)) .least))
     (λ c. let u = c .before .before .before in omega (arith, u .used-part .ensures .1))
     (λ c κs. tt)

@@ -10,10 +10,10 @@ returns c =
     let h = v .before in
     let n = h .before in
     let a = n .before .before .before .before in
-    record { verdict = judged-head _ _ _ _ _ (a .pre .1) (rw (n .numbered .ensures, h .head-of .ensures) at (v .head-verdict .ensures)) (c .if1 .taken); found = λ z. absurd (c .if1 .taken z) }
+    record { verdict = judged-head _ _ _ _ _ (a .pre .0) (rw (n .numbered .ensures, h .head-of .ensures) at (v .head-verdict .ensures)) (c .if1 .taken); found = λ z. absurd (c .if1 .taken z) }
 
 walk-requires : tie.Need-walk-requires
-walk-requires c κs = let a = c .before .before .before .before .before .before .before .before .before in (a .pre .0, a .pre .2, a .pre .3)
+walk-requires c κs = let a = c .before .before .before .before .before .before .before .before .before in (a .pre .1, a .pre .2)
 
 returns-2 : tie.Need-returns-2
 returns-2 c =
@@ -23,15 +23,15 @@ returns-2 c =
     let h = v .before in
     let n = h .before in
     let a = n .before .before .before .before in
-    record { verdict = judged-series _ _ _ _ _ (a .pre .1) (rw (n .numbered .ensures, h .head-of .ensures) at (v .head-verdict .ensures)) (f .if1 .left) (w .walk .ensures .verdict) (c .if2 .taken); found = λ z. absurd (c .if2 .taken z) }
+    record { verdict = judged-series _ _ _ _ _ (a .pre .0) (rw (n .numbered .ensures, h .head-of .ensures) at (v .head-verdict .ensures)) (f .if1 .left) (w .walk .ensures .verdict) (c .if2 .taken); found = λ z. absurd (c .if2 .taken z) }
 
 look-up-requires : tie.Need-look-up-requires
 look-up-requires c κs =
     let s = c .before in
     let w = s .before .before .before in
     let a = w .before .before .before .before .before .before .before .before .before .before in
-    let z = sizes _ _ (s .series-of .ensures) (a .pre .2) in
-    (z .1, z .0, a .pre .4)
+    let z = sizes _ _ (s .series-of .ensures) (a .pre .1) in
+    (z .1, z .0, a .pre .3)
 
 last-verdict-requires : tie.Need-last-verdict-requires
 last-verdict-requires c κs =
@@ -39,7 +39,7 @@ last-verdict-requires c κs =
     let s = u .before .before in
     let w = s .before .before .before in
     let a = w .before .before .before .before .before .before .before .before .before .before in
-    (rw (s .series-of .ensures) (a .pre .2), rw (s .series-of .ensures) (w .walk .ensures .stored), u .look-up .ensures)
+    (rw (s .series-of .ensures) (a .pre .1), rw (s .series-of .ensures) (w .walk .ensures .stored), u .look-up .ensures)
 
 returns-3 : tie.Need-returns-3
 returns-3 c =
@@ -53,7 +53,7 @@ returns-3 c =
     let n = h .before in
     let a = n .before .before .before .before in
     record {
-      verdict = judged-last _ _ _ _ _ (a .pre .1) (rw (n .numbered .ensures, h .head-of .ensures) at (v .head-verdict .ensures)) (f .if1 .left) (w .walk .ensures .verdict) (f2 .if2 .left) (rw (s .series-of .ensures) at (c .last-verdict .ensures));
+      verdict = judged-last _ _ _ _ _ (a .pre .0) (rw (n .numbered .ensures, h .head-of .ensures) at (v .head-verdict .ensures)) (f .if1 .left) (w .walk .ensures .verdict) (f2 .if2 .left) (rw (s .series-of .ensures) at (c .last-verdict .ensures));
       found = λ z. (w .walk .ensures .stored, rw (s .series-of .ensures) at (u .look-up .ensures));
     }
 
@@ -63,7 +63,7 @@ judge-from-spec =
     (tie.spec
     (λ c κs. tt)
     (λ c κs. tt)
-    (λ c κs. c .before .before .before .before .before .pre .0)
+    (λ c κs. tt)
     returns
     walk-requires
     returns-2

@@ -7,10 +7,10 @@ use Rattle.sound.proofs.all_fields.Statement.{statement}
 use Rattle.sound.proofs.all_fields.Tie as tie
 
 abbrev Inv-loop : tie.InvT-loop
-Inv-loop table d us blocks ok₀ i₀ ok i = every (usedFields d (cut 512 us)) (cut 512 us) ≡ (ok and every (usedFields d (cut 512 us)) (drop i (cut 512 us)))
+Inv-loop d us blocks ok₀ i₀ ok i = every (usedFields d (cut 512 us)) (cut 512 us) ≡ (ok and every (usedFields d (cut 512 us)) (drop i (cut 512 us)))
 
 abbrev μ-loop : tie.MeasureT-loop
-μ-loop table d us blocks ok₀ i₀ ok i = length us / 512 - i
+μ-loop d us blocks ok₀ i₀ ok i = length us / 512 - i
 
 loop-again : tie.Need-loop-again Inv-loop μ-loop
 loop-again c = every-go _ _ (c .before .before .before .loop .inv) (step-cut-at _ _ _ (c .before .before .loop-test .taken)) (c .used-fields .ensures ∙ ap (usedFields _ _) (c .before .block-at .ensures))

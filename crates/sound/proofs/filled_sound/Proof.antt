@@ -12,25 +12,25 @@ returns c = rw (filled-split, denied (c .before .checks-right .ensures) (c .if1 
 returns-2 : tie.Need-returns-2
 unfolding _and_
 returns-2 c =
-    let p = c .before .before .before in
-    let k = p .before .before in
+    let p = c .before .before in
+    let k = p .before in
     rw (filled-split, told (k .before .checks-right .ensures) (k .if1 .left), rw (p .part-of .ensures) at (denied (c .before .day-sound .ensures) (c .if2 .taken)))
 
 each-used-requires : tie.Need-each-used-requires
 each-used-requires c κs =
-    let d = c .before .before in
-    let s = d .before .before .before .before .before .before .before .before in
-    (search needs, day-n _ (told (d .before .day-sound .ensures) (d .if2 .left)), slots-few (now (s .args .filled)) (s .pre .1))
+    let d = c .before in
+    let s = d .before .before .before .before .before .before in
+    (day-n _ (told (d .before .day-sound .ensures) (d .if2 .left)), slots-few (now (s .args .filled)) (s .pre .1))
 
 returns-3 : tie.Need-returns-3
 unfolding _and_
 returns-3 c =
-    let d = c .before .before .before in
-    let p = d .before .before .before in
-    let k = p .before .before in
+    let d = c .before .before in
+    let p = d .before .before in
+    let k = p .before in
     rw (filled-split, told (k .before .checks-right .ensures) (k .if1 .left), ← p .part-of .ensures, told (d .before .day-sound .ensures) (d .if2 .left)) (c .each-used .ensures)
 
 pub filled-sound-spec : {M : Type 1} → statement M
 filled-sound-spec =
     tie.close
-    (tie.spec (λ c κs. search needs) returns (λ c κs. search needs) (λ c κs. search needs) (λ c κs. search needs) returns-2 (search needs) (search needs) (search needs) each-used-requires returns-3)
+    (tie.spec (λ c κs. search needs) returns (λ c κs. search needs) (λ c κs. search needs) returns-2 (search needs) (search needs) (search needs) each-used-requires returns-3)

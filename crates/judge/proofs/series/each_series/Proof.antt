@@ -12,16 +12,16 @@ use Rattle.judge.proofs.series.each_series.Statement.{statement}
 use Rattle.judge.proofs.series.each_series.Tie as tie
 
 abbrev Inv-loop : tie.InvT-loop
-Inv-loop table d us message places found h series count i₀ i =
+Inv-loop d us message places found h series count i₀ i =
     (i ≤ length series / 512) × (length series / 512 ≤ 200)
     × (eachSeries d (keep (isSeriesOf (found .slot)) (cut 512 us)) h [] 1 (cut 512 series) ≡ eachSeries d (keep (isSeriesOf (found .slot)) (cut 512 us)) h (take i (cut 512 series)) (i + 1) (drop i (cut 512 series)))
 
 abbrev μ-loop : tie.MeasureT-loop
-μ-loop table d us message places found h series count i₀ i = length series / 512 - i
+μ-loop d us message places found h series count i₀ i = length series / 512 - i
 
 loop-holds : tie.Need-loop-holds Inv-loop μ-loop
 loop-holds c =
-    let k : length (seriesOf (now (c .before .before .before .before .before .args .message))) ≤ 200 = c .before .before .before .before .before .pre .1 .short in
+    let k : length (seriesOf (now (c .before .before .before .before .before .args .message))) ≤ 200 = c .before .before .before .before .before .pre .0 .short in
     (omega arith, omega (arith, cut-length 512 (now (c .series-of .result)), ap length (c .series-of .ensures)), refl)
 
 returns : tie.Need-returns Inv-loop μ-loop
@@ -36,7 +36,7 @@ returns c =
     let e = s .series-of .ensures in
     rw (s .before .head-of .ensures, e) at
     (each-hit _ _ _ _ _ _ (t .before .loop .inv .2) (t .loop-test .taken)
-    (series-at _ _ _ _ _ e (a .pre .1) (a .pre .2) _ (t .loop-test .taken) _ _ (w .before .known-otherwise .ensures) (b .before .numbered .ensures ∙ ap (numbered _) (w .wide .ensures)) (b .block-at .ensures) (v .series-verdict .ensures)) (c .if1 .taken))
+    (series-at _ _ _ _ _ e (a .pre .0) (a .pre .1) _ (t .loop-test .taken) _ _ (w .before .known-otherwise .ensures) (b .before .numbered .ensures ∙ ap (numbered _) (w .wide .ensures)) (b .block-at .ensures) (v .series-verdict .ensures)) (c .if1 .taken))
 
 loop-again : tie.Need-loop-again Inv-loop μ-loop
 loop-again c =
@@ -50,7 +50,7 @@ loop-again c =
       omega arith,
       omega arith,
       each-go _ _ _ _ _ _ (t .before .loop .inv .2) (t .loop-test .taken)
-          (series-at _ _ _ _ _ e (a .pre .1) (a .pre .2) _ (t .loop-test .taken) _ _ (w .before .known-otherwise .ensures) (b .before .numbered .ensures ∙ ap (numbered _) (w .wide .ensures)) (b .block-at .ensures) (v .series-verdict .ensures)) (c .if1 .left),
+          (series-at _ _ _ _ _ e (a .pre .0) (a .pre .1) _ (t .loop-test .taken) _ _ (w .before .known-otherwise .ensures) (b .before .numbered .ensures ∙ ap (numbered _) (w .wide .ensures)) (b .block-at .ensures) (v .series-verdict .ensures)) (c .if1 .left),
     )
 
 returns-2 : tie.Need-returns-2 Inv-loop μ-loop
@@ -83,7 +83,7 @@ each-series-spec =
     (λ c κs. tt)
     (λ c. omega arith)
     (λ c κs. tt)
-    (λ c κs. c .before .before .before .before .before .before .before .before .before .before .before .before .before .before .before .pre .0)
+    (λ c κs. tt)
     returns
     (λ c. omega arith)
     (λ c. omega arith)

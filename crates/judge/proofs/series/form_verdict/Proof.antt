@@ -14,4 +14,4 @@ returns c =
 pub form-verdict-spec : {M : Type 1} → statement M
 form-verdict-spec =
     tie.close
-    (tie.spec (λ c κs. tt) (λ c κs. c .before .before .before .before .pre) (λ c κs. tt) (λ c κs. tt) (λ c κs. omega arith) returns)
+    (tie.spec (λ c κs. tt) (λ c κs. tt) (λ c κs. tt) (λ c κs. tt) (λ c κs. omega arith) returns)

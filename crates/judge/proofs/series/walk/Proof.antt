@@ -5,20 +5,20 @@ use Rattle.judge.proofs.series.walk.Statement.{statement}
 use Rattle.judge.proofs.series.walk.Tie as tie
 
 look-up-requires : tie.Need-look-up-requires
-look-up-requires c κs = let s = c .before in let z = sizes _ _ (s .series-of .ensures) (s .before .before .before .before .pre .1) in (z .1, z .1, search needs)
+look-up-requires c κs = let s = c .before in let z = sizes _ _ (s .series-of .ensures) (s .before .before .before .before .pre .0) in (z .1, z .1, search needs)
 
 look-up-requires-2 : tie.Need-look-up-requires-2
-look-up-requires-2 c κs = let s = c .before .before .before in let z = sizes _ _ (s .series-of .ensures) (s .before .before .before .before .pre .1) in (z .1, z .1, search needs)
+look-up-requires-2 c κs = let s = c .before .before .before in let z = sizes _ _ (s .series-of .ensures) (s .before .before .before .before .pre .0) in (z .1, z .1, search needs)
 
 look-up-requires-3 : tie.Need-look-up-requires-3
-look-up-requires-3 c κs = let s = c .before .before .before .before .before in let z = sizes _ _ (s .series-of .ensures) (s .before .before .before .before .pre .1) in (z .0, z .1, search needs)
+look-up-requires-3 c κs = let s = c .before .before .before .before .before in let z = sizes _ _ (s .series-of .ensures) (s .before .before .before .before .pre .0) in (z .0, z .1, search needs)
 
 look-up-requires-4 : tie.Need-look-up-requires-4
 look-up-requires-4 c κs =
     let s = c .before .before .before .before .before .before .before in
     let a = s .before .before .before .before in
-    let z = sizes _ _ (s .series-of .ensures) (a .pre .1) in
-    (z .0, z .1, a .pre .2)
+    let z = sizes _ _ (s .series-of .ensures) (a .pre .0) in
+    (z .0, z .1, a .pre .1)
 
 each-series-requires : tie.Need-each-series-requires
 each-series-requires c κs =
@@ -29,7 +29,7 @@ each-series-requires c κs =
     let s = l1 .before .before in
     let a = s .before .before .before .before in
     let e = s .series-of .ensures in
-    (a .pre .0, a .pre .1, record { first-ids = rw e at (l1 .look-up .ensures); first-pairs = rw e at (l2 .look-up2 .ensures); stored-ids = rw e at (l3 .look-up3 .ensures); stored-pairs = rw e at (l4 .look-up4 .ensures) })
+    (a .pre .0, record { first-ids = rw e at (l1 .look-up .ensures); first-pairs = rw e at (l2 .look-up2 .ensures); stored-ids = rw e at (l3 .look-up3 .ensures); stored-pairs = rw e at (l4 .look-up4 .ensures) })
 
 returns : tie.Need-returns
 returns c =

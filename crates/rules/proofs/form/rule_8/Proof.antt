@@ -10,10 +10,10 @@ rule-8-spec =
     tie.close
     (tie.spec
     (λ c κs. tt)
-    (λ c κs. c .before .before .before .pre)
     (λ c κs. tt)
-    (λ c κs. c .before .before .before .before .before .pre)
+    (λ c κs. tt)
+    (λ c κs. tt)
     (λ c κs. tt)
     (λ c κs. tt)
     (λ c. omega arith)
-    (λ c. simp (c .parties-of .ensures, c .before .pair .ensures, c .before .before .sender .ensures, c .before .before .before .eic-valid-with2 .ensures, c .before .before .before .before .out-party .ensures, c .before .before .before .before .before .eic-valid-with .ensures, c .before .before .before .before .before .before .in-party .ensures)))
+    (λ c. simp (c .parties-of .ensures, c .before .pair .ensures, c .before .before .sender .ensures, c .before .before .before .eic-valid2 .ensures, c .before .before .before .before .out-party .ensures, c .before .before .before .before .before .eic-valid .ensures, c .before .before .before .before .before .before .in-party .ensures)))

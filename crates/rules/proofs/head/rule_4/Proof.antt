@@ -10,5 +10,5 @@ rule-4-spec =
     tie.close
     (tie.spec
     (λ c κs. tt)
-    (λ c κs. c .before .before .pre)
-    (λ c. simp (c .eic-valid-with .ensures, c .before .sender .ensures)))
+    (λ c κs. tt)
+    (λ c. simp (c .eic-valid .ensures, c .before .sender .ensures)))

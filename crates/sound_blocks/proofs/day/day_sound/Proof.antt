@@ -9,9 +9,9 @@ unfolding daySound _and_
 returns c =
     simp (
       c .day-zeros .ensures,
-      c .before .eic-valid-with2 .ensures,
+      c .before .eic-valid2 .ensures,
       c .before .before .receiver .ensures,
-      c .before .before .before .eic-valid-with .ensures,
+      c .before .before .before .eic-valid .ensures,
       c .before .before .before .before .area .ensures,
       c .before .before .before .before .before .day-fields .ensures,
     )

@@ -9,7 +9,7 @@ unfolding senderFields _and_ is
 returns c =
     simp (
       c .sender-zeros .ensures,
-      c .before .eic-valid-with .ensures,
+      c .before .eic-valid .ensures,
       c .before .before .sender .ensures,
       c .before .before .before .id-well-formed .ensures,
       c .before .before .before .before .id-of .ensures,

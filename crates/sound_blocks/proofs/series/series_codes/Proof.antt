@@ -10,9 +10,9 @@ returns c =
     simp (
       c .all-zero .ensures,
       c .before .agreement .ensures,
-      c .before .before .eic-valid-with2 .ensures,
+      c .before .before .eic-valid2 .ensures,
       c .before .before .before .out-party .ensures,
-      c .before .before .before .before .eic-valid-with .ensures,
+      c .before .before .before .before .eic-valid .ensures,
       c .before .before .before .before .before .in-party .ensures,
       c .before .before .before .before .before .before .same2 .ensures,
       c .before .before .before .before .before .before .before .out-area .ensures,
