@@ -3,7 +3,7 @@
 use crate::block::*;
 use crate::book::SoundBook;
 use crate::counts::{Minute, LATEST_MINUTE, LONGEST_LEAD};
-use crate::identifier::is_valid_eic;
+use crate::identifier::wrong_character;
 use crate::sound::{is_day, length_is_right};
 
 pub const NOT_SOUND: u8 = 1;
@@ -20,18 +20,20 @@ pub struct DayState {
 }
 
 /// Opens a book: a fresh day block at the earliest minute, and nothing in any slot. What the
-/// buffer held before is not looked at. A refused opening writes nothing.
-pub fn open(book: &mut [u8], n: u8, lead: u16, day: &[u8], area: &[u8], receiver: &[u8]) -> u8 {
+/// buffer held before is not looked at. A refused opening writes nothing. Beside its number the call
+/// tells a wrong character: on 21 the area's and, where the area is good, the receiver's, whatever
+/// else is wrong.
+pub fn open(book: &mut [u8], n: u8, lead: u16, day: &[u8], area: &[u8], receiver: &[u8]) -> (u8, u8) {
     if !length_is_right(book.len()) {
-        return WRONG_LENGTH;
+        return (WRONG_LENGTH, 0);
     }
-    let lawful = matches!(n, 92 | 96 | 100)
-        && lead <= LONGEST_LEAD
-        && is_day(day)
-        && is_valid_eic(area)
-        && is_valid_eic(receiver);
+    let character = match wrong_character(area) {
+        0 => wrong_character(receiver),
+        of_area => of_area,
+    };
+    let lawful = matches!(n, 92 | 96 | 100) && lead <= LONGEST_LEAD && is_day(day) && character == 0;
     if !lawful {
-        return WRONG_PARAMETER;
+        return (WRONG_PARAMETER, character);
     }
     book.fill(0);
     let block = block_at_mut(book, 0);
@@ -43,7 +45,7 @@ pub fn open(book: &mut [u8], n: u8, lead: u16, day: &[u8], area: &[u8], receiver
     block[AREA..AREA + 16].copy_from_slice(area);
     block[RECEIVER..RECEIVER + 16].copy_from_slice(receiver);
     seal(block);
-    0
+    (0, 0)
 }
 
 /// Moves the clock forward, or leaves it where it is. The state handed back is the one kept when

@@ -6,14 +6,14 @@ use crate::block::{self, Mark, BLOCK_BYTES};
 use crate::codes::reason_code;
 use crate::counts::{Minute, Position};
 use crate::day::{self, DayState};
-use crate::identifier::{is_valid_eic, is_well_formed_id};
+use crate::identifier::{is_well_formed_id, wrong_character};
 use crate::listing;
 use crate::message::{series_of_message, SeriesReader};
 use crate::quantity_text;
 use crate::readings;
 use crate::sound;
 use crate::stream::Record;
-use crate::submission::{submit, Verdict};
+use crate::submission::{judge, submit, Verdict};
 
 /// What a record is answered with.
 #[derive(Clone, Debug, PartialEq, Eq)]
@@ -22,7 +22,7 @@ pub enum Reply {
     Bytes { offset: u32, count: usize },
     Book,
     Sum { length: usize, sum: u32 },
-    Open(u8),
+    Open { number: u8, character: u8 },
     Clock { number: u8, state: DayState },
     Submit(Verdict),
     Mark { number: u8, mark: Mark },
@@ -33,13 +33,14 @@ pub enum Reply {
     Walk { count: usize, sum: u32 },
     Listing(Vec<u8>),
     Sound(bool),
-    Eic(bool),
+    Eic(u8),
     Id(bool),
     Read { number: u8, value: u32 },
     Print { number: u8, length: usize, buffer: Vec<u8> },
     Check { value: u32, right: bool },
     Seal(Vec<u8>),
     Code(u8),
+    Judge(Verdict),
 }
 
 /// Bytes outside the buffer were to be set: the stream is malformed.
@@ -77,7 +78,8 @@ impl Desk {
             Record::Book => Reply::Book,
             Record::Sum => Reply::Sum { length: self.book.len(), sum: block::check_after(0, &self.book) },
             Record::Open { n, lead, day, area, receiver } => {
-                Reply::Open(day::open(&mut self.book, *n, *lead, day, area, receiver))
+                let (number, character) = day::open(&mut self.book, *n, *lead, day, area, receiver);
+                Reply::Open { number, character }
             }
             Record::Clock(minute) => {
                 let (number, state) = day::move_clock(&mut self.book, Minute(*minute));
@@ -117,7 +119,7 @@ impl Desk {
             }
             Record::Listing => Reply::Listing(listing::listing(&self.book)),
             Record::Sound => Reply::Sound(sound::is_sound(&self.book)),
-            Record::Eic(text) => Reply::Eic(is_valid_eic(text)),
+            Record::Eic(text) => Reply::Eic(wrong_character(text)),
             Record::Id(text) => Reply::Id(is_well_formed_id(text)),
             Record::Read(text) => {
                 let (number, value) = quantity_text::read(text);
@@ -135,6 +137,7 @@ impl Desk {
                 Reply::Seal(sealed.to_vec())
             }
             Record::Code(number) => Reply::Code(reason_code(*number)),
+            Record::Judge(message) => Reply::Judge(judge(&self.book, message)),
         })
     }
 
@@ -151,14 +154,11 @@ impl Desk {
                 Ok(())
             }
             Reply::Sum { length, sum } => writeln!(out, "sum {length} {sum}"),
-            Reply::Open(number) => writeln!(out, "open {number}"),
+            Reply::Open { number, character } => writeln!(out, "open {number} {character}"),
             Reply::Clock { number, state } => {
                 writeln!(out, "clock {number} {} {} {}", state.n, state.lead, state.clock.0)
             }
-            Reply::Submit(verdict) => {
-                let (number, code) = (verdict.number(), verdict.code());
-                writeln!(out, "submit {number} {code} {} {}", verdict.series, verdict.position.0)
-            }
+            Reply::Submit(verdict) => write_verdict(out, "submit", verdict),
             Reply::Mark { number, mark } => {
                 writeln!(out, "mark {number} {} {} {}", mark.state, mark.first.0, mark.partner.0)
             }
@@ -169,15 +169,21 @@ impl Desk {
             Reply::Walk { count, sum } => writeln!(out, "walk {count} {sum}"),
             Reply::Listing(text) => with_hex(out, format_args!("listing"), text),
             Reply::Sound(yes) => writeln!(out, "sound {}", u8::from(*yes)),
-            Reply::Eic(yes) => writeln!(out, "eic {}", u8::from(*yes)),
+            Reply::Eic(character) => writeln!(out, "eic {character}"),
             Reply::Id(yes) => writeln!(out, "id {}", u8::from(*yes)),
             Reply::Read { number, value } => writeln!(out, "read {number} {value}"),
             Reply::Print { number, length, buffer } => with_hex(out, format_args!("print {number} {length}"), buffer),
             Reply::Check { value, right } => writeln!(out, "check {value} {}", u8::from(*right)),
             Reply::Seal(block) => with_hex(out, format_args!("seal"), block),
             Reply::Code(code) => writeln!(out, "code {code}"),
+            Reply::Judge(verdict) => write_verdict(out, "judge", verdict),
         }
     }
+}
+
+fn write_verdict(out: &mut impl Write, word: &str, verdict: &Verdict) -> io::Result<()> {
+    let (number, code) = (verdict.number(), verdict.code());
+    writeln!(out, "{word} {number} {code} {} {} {}", verdict.series, verdict.position.0, verdict.character)
 }
 
 /// A line whose last word is hex; the word is left out when there are no bytes.
@@ -224,19 +230,25 @@ mod tests {
         assert_eq!(line(&mut desk, Record::Length(2)), "length 2\n");
         assert_eq!(line(&mut desk, Record::Book), "book 2\n0000\n");
         assert_eq!(line(&mut desk, Record::Clock(5)), "clock 1 0 0 0\n");
-        assert_eq!(line(&mut desk, Record::Submit(vec![])), "submit 1 0 0 0\n");
+        assert_eq!(line(&mut desk, Record::Submit(vec![])), "submit 1 0 0 0 0\n");
+        assert_eq!(line(&mut desk, Record::Judge(vec![])), "judge 1 0 0 0 0\n");
         assert_eq!(line(&mut desk, Record::Listing), "listing 6e6f7420736f756e640a\n");
         assert_eq!(line(&mut desk, Record::Length(1_024)), "length 1024\n");
-        let open = Record::Open {
+        let open = |area: &[u8], receiver: &[u8]| Record::Open {
             n: 96,
             lead: 45,
             day: b"20190131".to_vec(),
-            area: b"10YAT-APG------L".to_vec(),
-            receiver: b"14XAT-APCS-----Q".to_vec(),
+            area: area.to_vec(),
+            receiver: receiver.to_vec(),
         };
-        assert_eq!(line(&mut desk, open), "open 0\n");
+        assert_eq!(line(&mut desk, open(b"10YAT-APG------M", b"14XAT_APCS-----Q")), "open 21 16\n");
+        assert_eq!(line(&mut desk, open(b"10YAT-APG------L", b"14XAT_APCS-----Q")), "open 21 6\n");
+        assert_eq!(line(&mut desk, open(b"10YAT-APG------L", b"14XAT-APCS-----Q")), "open 0 0\n");
         assert_eq!(line(&mut desk, Record::Clock(5)), "clock 0 96 45 5\n");
-        assert_eq!(line(&mut desk, Record::Submit(vec![])), "submit 2 0 0 0\n");
+        assert_eq!(line(&mut desk, Record::Submit(vec![])), "submit 2 0 0 0 0\n");
+        assert_eq!(line(&mut desk, Record::Judge(vec![])), "judge 2 0 0 0 0\n");
+        assert_eq!(line(&mut desk, Record::Eic(b"10YAT-APG------L".to_vec())), "eic 0\n");
+        assert_eq!(line(&mut desk, Record::Eic(b"10YAT-APG".to_vec())), "eic 10\n");
         assert_eq!(line(&mut desk, Record::Plain), "plain 0 1\n");
         assert_eq!(line(&mut desk, Record::Block { sender: vec![], id: vec![] }), "block 0\n");
         assert_eq!(line(&mut desk, Record::Reader { number: 1, message: vec![] }), "reader 0\n");

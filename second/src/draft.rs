@@ -424,6 +424,10 @@ impl Draft {
         let head = &mut self.blocks[0];
         match fault {
             Fault::Receiver => put_field(head, RECEIVER, &names::valid_eic(random)),
+            Fault::SenderEic if random.percent(50) => {
+                let character = names::character_number(random);
+                put_field(head, SENDER, &names::wrong_at(random, character));
+            }
             Fault::SenderEic => put_field(head, SENDER, &names::invalid_eic(random)),
             Fault::Day => {
                 let at = DAY_IN_SENDER + random.below(DAY_DIGITS);
@@ -458,7 +462,7 @@ impl Draft {
             }
             (Fault::IdOtherPair, Some(place)) => {
                 let at = random.pick(&[IN_PARTY, OUT_PARTY]);
-                let party = if random.percent(50) { names::valid_eic(random) } else { names::invalid_eic(random) };
+                let party = if random.percent(30) { names::valid_eic(random) } else { names::invalid_eic(random) };
                 put_field(&mut self.blocks[place], at, &party);
             }
             (_, Some(place)) => {
@@ -492,7 +496,7 @@ impl Draft {
     /// Rule 8, at a series that the book does not hold: at any other it would be rule 7.
     fn spoil_parties(&mut self, random: &mut Random, fault: Fault, place: usize) {
         let own = self.sender;
-        let invalid = if random.percent(50) { names::hyphen_eic(random) } else { names::invalid_eic(random) };
+        let invalid = if random.percent(60) { names::hyphen_eic(random) } else { names::invalid_eic(random) };
         let series = &mut self.blocks[place];
         match fault {
             Fault::InParty => put_field(series, IN_PARTY, &invalid),
@@ -513,6 +517,7 @@ impl Draft {
     fn spoil_trade(&mut self, random: &mut Random, fault: Fault, place: usize) {
         let series = &mut self.blocks[place];
         match fault {
+            Fault::InArea if random.percent(50) => put_field(series, IN_AREA, &names::invalid_eic(random)),
             Fault::InArea => put_field(series, IN_AREA, &names::valid_eic(random)),
             Fault::OutArea => put_field(series, OUT_AREA, &names::invalid_eic(random)),
             Fault::BusinessType => series[BUSINESS_TYPE] = random.pick(&[0, 1, 3, 255]),
@@ -667,6 +672,38 @@ impl Draft {
 }
 
 cases! {
+    /// Whose code is no EIC.
+    WrongCode {
+        Sender,
+        InParty,
+        OutParty,
+        BothParties,
+    }
+}
+
+impl Draft {
+    /// A code that tells this character. Of two wrong parties the in party's is told.
+    pub fn spoil_code(&mut self, random: &mut Random, whose: WrongCode, character: u8, partners: &[Field]) {
+        let wrong = names::wrong_at(random, character);
+        if whose == WrongCode::Sender {
+            put_field(&mut self.blocks[0], SENDER, &wrong);
+            return;
+        }
+        let place = self.new_series(random, partners);
+        let series = &mut self.blocks[place];
+        if whose != WrongCode::OutParty {
+            put_field(series, IN_PARTY, &wrong);
+        }
+        if whose == WrongCode::BothParties && random.percent(75) {
+            let other = names::character_number(random);
+            put_field(series, OUT_PARTY, &names::wrong_at(random, other));
+        } else if whose != WrongCode::InParty {
+            put_field(series, OUT_PARTY, &wrong);
+        }
+    }
+}
+
+cases! {
     /// Ways to spoil the form of a message, one for each clause of rule 2.
     FormFault {
         PartOfBlock,
@@ -752,7 +789,7 @@ mod tests {
         let partners: Vec<Field> = (0..6).map(|_| names::valid_eic(&mut random)).collect();
         let mut book = vec![0; 20 * BLOCK_BYTES];
         let (area, receiver) = (names::valid_eic(&mut random), names::valid_eic(&mut random));
-        assert_eq!(crate::day::open(&mut book, 96, 45, b"20190131", &area, &receiver), 0);
+        assert_eq!(crate::day::open(&mut book, 96, 45, b"20190131", &area, &receiver), (0, 0));
         for _ in 0..300 {
             for (&fault, &clause) in FormFault::ALL.iter().zip(MessageClause::ALL) {
                 let growth = Growth { new: New::UpTo(4), changed: 50, side: None };

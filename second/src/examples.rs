@@ -7,14 +7,14 @@ use crate::block::*;
 use crate::codes::reason_code;
 use crate::counts::{Minute, Position, Slot, DAY_START};
 use crate::day::{move_clock, open, DayState};
-use crate::identifier::{is_valid_eic, VALUES as CHARACTER_VALUES};
+use crate::identifier::{is_valid_eic, wrong_character, VALUES as CHARACTER_VALUES};
 use crate::listing::listing;
 use crate::message::{series_of_message, SeriesReader};
 use crate::plain_rule;
 use crate::quantity_text;
 use crate::readings::{accepted_block, final_value, mark_of, plain_run};
 use crate::sound::{is_sound, MOST_BLOCKS};
-use crate::submission::{submit, Verdict};
+use crate::submission::{judge, submit, Verdict};
 
 pub type Outcome = Result<(), String>;
 
@@ -37,6 +37,10 @@ pub const EXAMPLES: &[Example] = &[
     ("the reader", reader),
     ("the table of codes", codes),
     ("the listing", printed_listing),
+    ("the wrong character of a code", wrong_characters),
+    ("the wrong character in an opening", wrong_characters_in_opening),
+    ("the wrong character in a submission", wrong_characters_in_submission),
+    ("judging", judging),
 ];
 
 fn same<T: PartialEq + Debug>(what: &str, found: T, expected: T) -> Outcome {
@@ -97,7 +101,7 @@ fn message(sender: &Field, version: u16, n: u8, list: &[Block]) -> Vec<u8> {
 
 fn opened(blocks: usize, n: u8, lead: u16) -> Vec<u8> {
     let mut book = vec![0xAA; blocks * BLOCK_BYTES];
-    assert_eq!(open(&mut book, n, lead, DAY_TEXT, AREA_CODE, RECEIVER_CODE), 0);
+    assert_eq!(open(&mut book, n, lead, DAY_TEXT, AREA_CODE, RECEIVER_CODE), (0, 0));
     book
 }
 
@@ -205,7 +209,7 @@ fn checks() -> Outcome {
 fn lengths() -> Outcome {
     for (blocks, expected) in [(0, 20), (1, 20), (2, 0), (MOST_BLOCKS, 0), (MOST_BLOCKS + 1, 20)] {
         let mut book = vec![7; blocks * BLOCK_BYTES];
-        let number = open(&mut book, 96, 0, DAY_TEXT, AREA_CODE, RECEIVER_CODE);
+        let (number, _) = open(&mut book, 96, 0, DAY_TEXT, AREA_CODE, RECEIVER_CODE);
         same(&format!("opening {blocks} blocks"), number, expected)?;
         same("soundness afterwards", is_sound(&book), expected == 0)?;
     }
@@ -213,7 +217,7 @@ fn lengths() -> Outcome {
     book.extend([0; BLOCK_BYTES]);
     same("a book of 1,002 blocks", is_sound(&book), false)?;
     for (n, lead, expected) in [(96, 1_440, 0), (96, 1_441, 21), (95, 0, 21), (92, 0, 0), (100, 0, 0)] {
-        let number = open(&mut book[..1_024], n, lead, DAY_TEXT, AREA_CODE, RECEIVER_CODE);
+        let (number, _) = open(&mut book[..1_024], n, lead, DAY_TEXT, AREA_CODE, RECEIVER_CODE);
         same(&format!("opening with n {n} and lead {lead}"), number, expected)?;
     }
     Ok(())
@@ -397,6 +401,92 @@ fn printed_listing() -> Outcome {
     book[9] ^= 1;
     same("a changed byte", listing(&book), b"not sound\n".to_vec())?;
     same("the plain run on it", plain_run(&book), (1, false))
+}
+
+/// Document 02, C-11.
+fn wrong_characters() -> Outcome {
+    for (code, expected) in [
+        ("10XAT-APG------Z", 0),
+        ("10XAT-APG------Y", 16),
+        ("10XAT-APG-------", 16),
+        ("10XAT-APG------z", 16),
+        ("a0XAT-APG------Z", 1),
+        ("10XAT_APG------Y", 6),
+        ("10XAT_APG-----_Z", 6),
+        ("10XAT-APG-----_Z", 15),
+        ("00000000000000J-", 16),
+        ("0000000000000000", 16),
+        ("00000000000000_0", 15),
+        ("", 1),
+        ("1", 2),
+        ("10XAT-APG", 10),
+        ("10XAT-AP_", 9),
+        ("10XAT-APG------", 16),
+        ("000000000000000", 16),
+        ("10XAT-APG------Z0", 16),
+        ("10XAT_APG------Z0", 6),
+    ] {
+        same(code, wrong_character(code.as_bytes()), expected)?;
+    }
+    Ok(())
+}
+
+fn wrong_characters_in_opening() -> Outcome {
+    let mut book = vec![7; 2 * BLOCK_BYTES];
+    let (area, receiver) = (&b"10YAT-APG_-----L"[..], &b"14_AT-APCS-----Q"[..]);
+    for (n, area, receiver, expected) in [
+        (96, area, receiver, (21, 10)),
+        (96, area, RECEIVER_CODE, (21, 10)),
+        (96, AREA_CODE, receiver, (21, 3)),
+        (95, AREA_CODE, receiver, (21, 3)),
+        (95, area, RECEIVER_CODE, (21, 10)),
+        (95, AREA_CODE, RECEIVER_CODE, (21, 0)),
+        (96, &AREA_CODE[..4], RECEIVER_CODE, (21, 5)),
+        (96, AREA_CODE, &[&RECEIVER_CODE[..], b"Q"].concat()[..], (21, 16)),
+        (96, AREA_CODE, RECEIVER_CODE, (0, 0)),
+    ] {
+        same(&format!("opening {area:?} {receiver:?}"), open(&mut book, n, 0, DAY_TEXT, area, receiver), expected)?;
+    }
+    same("a wrong length", open(&mut book[..512], 96, 0, DAY_TEXT, area, receiver), (20, 0))?;
+    same("a wrong day", open(&mut book, 96, 0, b"2019013x", AREA_CODE, receiver), (21, 3))
+}
+
+fn wrong_characters_in_submission() -> Outcome {
+    let book = opened(4, 96, 0);
+    let told = |sender: &Field, in_party: &Field, out_party: &Field| {
+        let verdict = judge(&book, &message(sender, 1, 96, &[series("A", in_party, out_party, 1, 96, 1)]));
+        (verdict.number(), verdict.series, verdict.character)
+    };
+    let (third, sixteenth) = (b"14xBILANZGR-1--F", b"14XBG-EMPFANG--1");
+    let other = b"13XBILANZGR-2--Q";
+    same("a good message", told(SELLER, BUYER, SELLER), (0, 0, 0))?;
+    same("the sender", told(third, BUYER, SELLER), (4, 0, 3))?;
+    same("the sender before the parties", told(third, sixteenth, third), (4, 0, 3))?;
+    same("the in party", told(SELLER, sixteenth, SELLER), (8, 1, 16))?;
+    same("the out party", told(BUYER, BUYER, third), (8, 1, 3))?;
+    same("both, the in party first", told(SELLER, sixteenth, third), (8, 1, 16))?;
+    same("one wrong code twice", told(SELLER, third, third), (8, 1, 3))?;
+    same("parties equal", told(SELLER, SELLER, SELLER), (8, 1, 0))?;
+    same("neither the sender", told(SELLER, BUYER, other), (8, 1, 0))?;
+    let mut foreign = series("A", BUYER, SELLER, 1, 96, 1);
+    put_field(&mut foreign, IN_AREA, third);
+    let verdict = judge(&book, &message(SELLER, 1, 96, &[foreign]));
+    same("an area", (verdict.number(), verdict.character), (9, 0))
+}
+
+/// What a submission would answer, and then what it answers.
+fn judging() -> Outcome {
+    let mut book = book_at_version_2(45)?;
+    let good = message(SELLER, 3, 96, &[series("TS0001", BUYER, SELLER, 3, 96, 50_000)]);
+    let stale = message(SELLER, 2, 96, &[series("TS0001", BUYER, SELLER, 2, 96, 50_000)]);
+    for (bytes, expected) in [(&stale, (6, 51, 0, 0)), (&good, ACCEPTED)] {
+        same("judged", answer(judge(&book, bytes)), expected)?;
+        same("judged again", answer(judge(&book, bytes)), expected)?;
+        same("submitted", answer(submit(&mut book, bytes)), expected)?;
+    }
+    same("judged when it is in", answer(judge(&book, &good)), (6, 51, 0, 0))?;
+    book[9] ^= 1;
+    same("not sound", answer(judge(&book, &good)), (1, 0, 0, 0))
 }
 
 #[cfg(test)]

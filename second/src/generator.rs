@@ -12,7 +12,8 @@ use crate::block::*;
 use crate::breach::Breach;
 use crate::deck::Deck;
 use crate::desk::Desk;
-use crate::draft::{FormFault, Side};
+use crate::draft::{FormFault, Side, WrongCode};
+use crate::identifier::LAST_CHARACTER;
 use crate::names;
 use crate::random::Random;
 use crate::stream::{records_between, Record};
@@ -20,6 +21,8 @@ use crate::stream::{records_between, Record};
 mod calls;
 mod episodes;
 mod messages;
+
+use episodes::WrongOpening;
 
 /// What an episode is about, and how large its books are.
 #[derive(Clone, Copy, PartialEq, Eq)]
@@ -54,6 +57,17 @@ const WHOLE_CLIMB: u64 = 5;
 /// How often the refusal of version 1,000 is asked for after a climb.
 const BEYOND_CLIMB: usize = 3;
 
+/// Whose code is to be wrong, and how often in one round: rule 4 is broken by one code and rule 8 by
+/// either of two, or by both, so the sender's comes three times.
+const WRONG_CODES: [WrongCode; 6] = [
+    WrongCode::Sender,
+    WrongCode::Sender,
+    WrongCode::Sender,
+    WrongCode::InParty,
+    WrongCode::OutParty,
+    WrongCode::BothParties,
+];
+
 /// A book to be put back after some calls on a damaged one.
 struct Repair {
     calls: usize,
@@ -76,6 +90,10 @@ pub struct Generator {
     /// The lower of two rules, next to each other, that one message is to break.
     neighbours: Deck<u8>,
     forms: Deck<FormFault>,
+    /// Whose code is to be wrong, and at which character.
+    wrong_codes: Deck<(WrongCode, u8)>,
+    wrong_openings: Deck<(WrongOpening, u8)>,
+    wrong_texts: Deck<u8>,
     /// Numbers whose code is asked for.
     numbers: Deck<u8>,
     episode: Episode,
@@ -120,6 +138,9 @@ impl Generator {
             breaches: Deck::of(Breach::ALL),
             neighbours: Deck::of(&(3..=16).collect::<Vec<u8>>()),
             forms: Deck::of(FormFault::ALL),
+            wrong_codes: Deck::of(&at_each_character(&WRONG_CODES)),
+            wrong_openings: Deck::of(&at_each_character(WrongOpening::ALL)),
+            wrong_texts: Deck::of(&(1..=LAST_CHARACTER).collect::<Vec<u8>>()),
             numbers: Deck::of(&(0..=35).collect::<Vec<u8>>()),
             episode: Episode::Small,
             whole_climb: seed % WHOLE_CLIMB == 0,
@@ -174,7 +195,7 @@ impl Generator {
     }
 
     fn action(&mut self, book: &[u8]) {
-        match self.random.weighted(&[52, 7, 8, 5, 9, 4, 6, 3, 3, 18, 3, 1, 7, 1]) {
+        match self.random.weighted(&[54, 8, 8, 5, 12, 4, 6, 3, 3, 20, 3, 2, 9, 2, 8]) {
             0 => self.submission(book),
             1 => self.clock(book),
             2 => self.mark_or_block(book, true),
@@ -188,13 +209,21 @@ impl Generator {
             10 => self.damage(book),
             11 => self.reopen(),
             12 => self.broken_book(book),
-            _ => self.listing_at_edge(book),
+            13 => self.listing_at_edge(book),
+            _ => self.wrong_code(book),
         }
     }
 
     fn set_book(&mut self, from: &[u8], to: &[u8]) {
         self.queue.extend(records_between(from, to));
     }
+}
+
+/// Each of these with each character that a code can be wrong at; twice with the last, which is wrong in
+/// the most ways.
+fn at_each_character<T: Copy>(list: &[T]) -> Vec<(T, u8)> {
+    let characters = (1..=LAST_CHARACTER).chain([LAST_CHARACTER]);
+    characters.flat_map(|character| list.iter().map(move |&one| (one, character))).collect()
 }
 
 /// Writes a stream with this many calls. The calls left out are made here all the same: what they

@@ -8,7 +8,7 @@ use crate::message::{self, MessageClause};
 use crate::sights::{sights, Sight};
 use crate::sound::{self, SoundClause};
 use crate::stream::Record;
-use crate::submission::Broken;
+use crate::submission::{Broken, Verdict};
 
 /// Every answer a call can give; none of them may be missing from a long run.
 const ANSWERS: &[(&str, &[u8])] = &[
@@ -21,10 +21,34 @@ const ANSWERS: &[(&str, &[u8])] = &[
     ("plain", &[0, 1]),
     ("read", &[0, 30, 31]),
     ("print", &[0, 30, 32]),
+    ("judge", &[0, 1, 2, 3, 4, 5, 6, 7, 8, 9, 10, 11, 12, 13, 14, 15, 16, 17]),
 ];
+
+/// Where a wrong character is told, and which ones can be.
+const CHARACTERS: &[(&str, &[u8])] = &[
+    ("eic", &[0, 1, 2, 3, 4, 5, 6, 7, 8, 9, 10, 11, 12, 13, 14, 15, 16]),
+    ("open 21, character", &[0, 1, 2, 3, 4, 5, 6, 7, 8, 9, 10, 11, 12, 13, 14, 15, 16]),
+    ("submit 4, character", &[1, 2, 3, 4, 5, 6, 7, 8, 9, 10, 11, 12, 13, 14, 15, 16]),
+    ("submit 8, character", &[0, 1, 2, 3, 4, 5, 6, 7, 8, 9, 10, 11, 12, 13, 14, 15, 16]),
+    ("judge 4, character", &[1, 2, 3, 4, 5, 6, 7, 8, 9, 10, 11, 12, 13, 14, 15, 16]),
+    ("judge 8, character", &[0, 1, 2, 3, 4, 5, 6, 7, 8, 9, 10, 11, 12, 13, 14, 15, 16]),
+];
+
+/// A count for each number of each row.
+fn zeros(rows: &[(&str, &[u8])]) -> Vec<Vec<u64>> {
+    rows.iter().map(|(_, numbers)| vec![0; numbers.len()]).collect()
+}
+
+/// Counts one number of one row.
+fn tally(rows: &[(&str, &[u8])], counts: &mut [Vec<u64>], name: &str, number: u8) {
+    let row = rows.iter().position(|&(known, _)| known == name).expect("a row of the list");
+    let column = rows[row].1.iter().position(|&known| known == number).expect("a number the row may have");
+    counts[row][column] += 1;
+}
 
 pub struct Histogram {
     answers: Vec<Vec<u64>>,
+    characters: Vec<Vec<u64>>,
     sound: Vec<u64>,
     message: Vec<u64>,
     broken: Vec<u64>,
@@ -35,7 +59,8 @@ pub struct Histogram {
 impl Default for Histogram {
     fn default() -> Self {
         Histogram {
-            answers: ANSWERS.iter().map(|(_, numbers)| vec![0; numbers.len()]).collect(),
+            answers: zeros(ANSWERS),
+            characters: zeros(CHARACTERS),
             sound: vec![0; SoundClause::ALL.len()],
             message: vec![0; MessageClause::ALL.len()],
             broken: vec![0; Broken::ALL.len()],
@@ -60,10 +85,15 @@ impl Histogram {
             self.breaches[breach as usize] += 1;
         }
         match reply {
-            Reply::Open(number) => self.answer("open", *number, book),
+            Reply::Open { number, character } => {
+                self.answer("open", *number, book);
+                if *number == 21 {
+                    self.character("open 21, character", *character);
+                }
+            }
             Reply::Clock { number, .. } => self.answer("clock", *number, book),
             Reply::Submit(verdict) => {
-                self.answer("submit", verdict.number(), book);
+                self.verdict("submit", verdict, book);
                 if let (Some(broken), Record::Submit(submitted)) = (verdict.broken, record) {
                     self.refusal(broken, submitted);
                 }
@@ -74,6 +104,8 @@ impl Histogram {
             Reply::Plain { number, .. } => self.answer("plain", *number, book),
             Reply::Read { number, .. } => self.answer("read", *number, book),
             Reply::Print { number, .. } => self.answer("print", *number, book),
+            Reply::Judge(verdict) => self.verdict("judge", verdict, book),
+            Reply::Eic(character) => self.character("eic", *character),
             Reply::Sound(false) => self.unsound(book),
             Reply::Listing(text) if text == b"not sound\n" => self.unsound(book),
             _ => {}
@@ -89,12 +121,21 @@ impl Histogram {
     }
 
     fn answer(&mut self, call: &str, number: u8, book: &[u8]) {
-        let row = ANSWERS.iter().position(|&(known, _)| known == call).expect("a call of the list");
-        let column = ANSWERS[row].1.iter().position(|&known| known == number).expect("a number the call may give");
-        self.answers[row][column] += 1;
+        tally(ANSWERS, &mut self.answers, call, number);
         if number == 1 {
             self.unsound(book);
         }
+    }
+
+    fn verdict(&mut self, call: &str, verdict: &Verdict, book: &[u8]) {
+        self.answer(call, verdict.number(), book);
+        if let number @ (4 | 8) = verdict.number() {
+            self.character(&format!("{call} {number}, character"), verdict.character);
+        }
+    }
+
+    fn character(&mut self, place: &str, character: u8) {
+        tally(CHARACTERS, &mut self.characters, place, character);
     }
 
     fn unsound(&mut self, book: &[u8]) {
@@ -109,9 +150,10 @@ impl Histogram {
 
     fn rows(&self) -> Vec<(String, u64)> {
         let mut rows = Vec::new();
-        for ((call, numbers), counts) in ANSWERS.iter().zip(&self.answers) {
+        let answers = ANSWERS.iter().zip(&self.answers);
+        for ((name, numbers), counts) in answers.chain(CHARACTERS.iter().zip(&self.characters)) {
             for (number, &count) in numbers.iter().zip(counts) {
-                rows.push((format!("{call} {number}"), count));
+                rows.push((format!("{name} {number}"), count));
             }
         }
         for (clause, &count) in SoundClause::ALL.iter().zip(&self.sound) {

@@ -43,16 +43,35 @@ pub fn check_value(first_fifteen: &[u8; 15]) -> Option<u8> {
     }
 }
 
+/// The number of a code's sixteenth character, which is also told for fifteen zeros and for a code
+/// that is too long.
+pub const LAST_CHARACTER: u8 = 16;
+
+/// Which character of a code is wrong: 0 for a valid EIC. A missing character is one that is not
+/// allowed, so a code that is too short is wrong at the character behind its end, if not before.
+pub fn wrong_character(code: &[u8]) -> u8 {
+    let allowed = |character: u8| VALUES[usize::from(character)] != NO_VALUE;
+    for number in 1..LAST_CHARACTER {
+        if !code.get(usize::from(number) - 1).copied().map_or(false, allowed) {
+            return number;
+        }
+    }
+    let first_fifteen = code[..15].try_into().expect("fifteen characters");
+    let last = match code[15..] {
+        [last] => VALUES[usize::from(last)],
+        _ => NO_VALUE,
+    };
+    // 36 is the hyphen, and a byte outside the alphabet has 255: both fall out here.
+    if last < 36 && check_value(first_fifteen) == Some(last) {
+        0
+    } else {
+        LAST_CHARACTER
+    }
+}
+
 /// Whether the bytes are a valid EIC.
 pub fn is_valid_eic(bytes: &[u8]) -> bool {
-    let characters = match <&[u8; 16]>::try_from(bytes) {
-        Err(_) => return false,
-        Ok(characters) => characters,
-    };
-    let first_fifteen = characters[..15].try_into().expect("fifteen characters");
-    let last = VALUES[usize::from(characters[15])];
-    // 36 is the hyphen, and a byte outside the alphabet has 255: both fall out here.
-    last < 36 && check_value(first_fifteen) == Some(last)
+    wrong_character(bytes) == 0
 }
 
 /// Whether the bytes would be a valid EIC, were a hyphen allowed as its sixteenth character.
@@ -107,6 +126,52 @@ mod tests {
             code[15] = last;
             assert!(!is_valid_eic(&code));
         }
+    }
+
+    #[test]
+    fn the_first_character_that_is_not_allowed_is_told() {
+        let valid = b"10XAT-APG------Z";
+        assert_eq!(wrong_character(valid), 0);
+        for number in 1..=16u8 {
+            for byte in 0..=255u8 {
+                let mut code = *valid;
+                code[usize::from(number) - 1] = byte;
+                // One changed character that is allowed moves the sum, unless it is the same again.
+                let expected = match VALUES[usize::from(byte)] {
+                    NO_VALUE => number,
+                    _ if code == *valid => 0,
+                    _ => 16,
+                };
+                assert_eq!(wrong_character(&code), expected);
+                code[15] = b'a';
+                assert_eq!(wrong_character(&code), if expected == 0 { 16 } else { expected });
+            }
+        }
+        for length in 0..16 {
+            assert_eq!(usize::from(wrong_character(&valid[..length])), length + 1);
+            assert_eq!(wrong_character(&[&[b'a'], &valid[..length]].concat()), 1);
+        }
+    }
+
+    #[test]
+    fn the_sixteenth_is_told_for_all_that_the_first_fifteen_leave() {
+        for code in [
+            &b"10XAT-APG------Y"[..],
+            b"10XAT-APG-------",
+            b"10XAT-APG------z",
+            b"00000000000000J-",
+            b"10XAT-APG------Z0",
+            b"10XAT-APG------Za",
+            b"10XAT-APG------",
+            b"000000000000000",
+        ] {
+            assert_eq!(wrong_character(code), 16);
+        }
+        for last in 0..=255u8 {
+            assert_eq!(wrong_character(&[&[b'0'; 15][..], &[last]].concat()), 16);
+        }
+        assert_eq!(wrong_character(b"0000000000000_00"), 14);
+        assert_eq!(wrong_character(b"10XAT-APG-----_Z0"), 15);
     }
 
     #[test]

@@ -1,10 +1,13 @@
 //! Random names, quantities and days for the generator.
 
 use crate::block::{Field, HIGHEST_QUANTITY, POSITIONS};
-use crate::identifier::{check_value, fails_by_hyphen_alone, is_valid_eic};
+use crate::identifier::{check_value, fails_by_hyphen_alone, is_valid_eic, wrong_character, LAST_CHARACTER};
 use crate::random::Random;
 
 const ALPHABET: &[u8] = b"0123456789ABCDEFGHIJKLMNOPQRSTUVWXYZ-";
+
+/// Bytes that no code holds: those next to the alphabet's, its own with the top bit set, and others.
+const NOT_ALLOWED: &[u8] = b"/:@[,.`a_ xz\0\xad\xb0\xc1\xff";
 
 /// Some character of the alphabet.
 pub fn character(random: &mut Random) -> u8 {
@@ -78,7 +81,7 @@ pub fn invalid_eic(random: &mut Random) -> Field {
             0 => code[15] = b'-',
             1 => code = [b'0'; 16],
             2 => code[random.below(16)] = random.byte(),
-            3 => code[random.below(16)] = b'x',
+            3 => code[random.below(16)] = random.pick(NOT_ALLOWED),
             4 => code = [0; 16],
             _ => code[random.below(16)] = random.pick(ALPHABET),
         }
@@ -86,6 +89,62 @@ pub fn invalid_eic(random: &mut Random) -> Field {
             return code;
         }
     }
+}
+
+/// The number of some character of a code.
+pub fn character_number(random: &mut Random) -> u8 {
+    random.between(1, usize::from(LAST_CHARACTER)) as u8
+}
+
+/// A field that is no EIC and tells this character. Behind a character that is not allowed there
+/// sometimes stands a second one, which must not be told.
+pub fn wrong_at(random: &mut Random, character: u8) -> Field {
+    if character == LAST_CHARACTER {
+        return wrong_at_last(random);
+    }
+    let mut code = valid_eic(random);
+    code[usize::from(character) - 1] = random.pick(NOT_ALLOWED);
+    if random.percent(40) {
+        code[random.between(usize::from(character), 15)] = random.pick(NOT_ALLOWED);
+    }
+    code
+}
+
+/// A field that is no EIC, though its first fifteen characters are allowed.
+fn wrong_at_last(random: &mut Random) -> Field {
+    loop {
+        let mut code = valid_eic(random);
+        match random.below(7) {
+            0 | 1 => code = hyphen_eic(random),
+            2 => code[15] = b'-',
+            3 => code[15] = random.pick(NOT_ALLOWED),
+            4 => code[..15].fill(b'0'),
+            5 => code = [b'0'; 16],
+            _ => code[15] = random.pick(ALPHABET),
+        }
+        if wrong_character(&code) == LAST_CHARACTER {
+            return code;
+        }
+    }
+}
+
+/// A text that tells this character, often one that is too short or too long.
+pub fn wrong_text_at(random: &mut Random, character: u8) -> Vec<u8> {
+    let mut code = wrong_at(random, character).to_vec();
+    match random.below(6) {
+        // Nothing is wrong but that it ends before this character.
+        0 => code.truncate(usize::from(character) - 1),
+        1 => code.truncate(random.between(usize::from(character), 16)),
+        2 | 3 => {
+            if character == LAST_CHARACTER && random.percent(60) {
+                code = valid_eic(random).to_vec();
+            }
+            let more = if random.percent(80) { random.between(1, 3) } else { random.between(4, 48) };
+            code.extend((0..more).map(|_| random.pick(b"0AZ-a\0")));
+        }
+        _ => {}
+    }
+    code
 }
 
 /// A well-formed id of random length.
@@ -157,4 +216,35 @@ pub fn profile(random: &mut Random, n: usize) -> [u32; POSITIONS] {
         _ => values[..n].fill(HIGHEST_QUANTITY),
     }
     values
+}
+
+#[cfg(test)]
+mod tests {
+    use super::*;
+
+    #[test]
+    fn a_code_made_wrong_at_a_character_tells_that_character() {
+        let mut random = Random::new(5);
+        for _ in 0..500 {
+            for character in 1..=LAST_CHARACTER {
+                assert_eq!(wrong_character(&wrong_at(&mut random, character)), character);
+                assert_eq!(wrong_character(&wrong_text_at(&mut random, character)), character);
+            }
+        }
+    }
+
+    /// What a program may put in place of a code that has not sixteen characters (docs/REPLAY.md).
+    #[test]
+    fn fifteen_bytes_filled_up_with_zero_bytes_tell_the_same_character() {
+        let mut random = Random::new(6);
+        for _ in 0..500 {
+            for character in 1..=LAST_CHARACTER {
+                let text = wrong_text_at(&mut random, character);
+                let mut code = [0; 16];
+                let kept = text.len().min(15);
+                code[..kept].copy_from_slice(&text[..kept]);
+                assert!(text.len() == 16 || wrong_character(&code) == character);
+            }
+        }
+    }
 }

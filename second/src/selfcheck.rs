@@ -1,5 +1,5 @@
 //! The self-check: the worked examples, then random calls with demand 3 held against the plain
-//! rule after every acceptance.
+//! rule after every acceptance, and each wrong character against a reckoning of its own.
 
 use std::collections::HashMap;
 
@@ -13,6 +13,7 @@ use crate::histogram::Histogram;
 use crate::plain_rule::{self, Matching, PlainMark};
 use crate::readings::{final_in, plain_run};
 use crate::stream::Record;
+use crate::submission::submit;
 
 /// How many finals are remembered for one opening, so that reading them again stays quick.
 const MOST_FINALS: usize = 200;
@@ -33,8 +34,11 @@ struct Ledger {
 impl Ledger {
     /// Looks at one call: the buffer before it and after it.
     fn observe(&mut self, record: &Record, reply: &Reply, before: &[u8], after: &[u8]) -> Result<(), String> {
+        if character_told(reply) != character_due(record, reply) {
+            return Err("another character is told than the wrong one".into());
+        }
         let refused = match reply {
-            Reply::Open(number) | Reply::Clock { number, .. } => *number != 0,
+            Reply::Open { number, .. } | Reply::Clock { number, .. } => *number != 0,
             Reply::Submit(verdict) => verdict.broken.is_some(),
             _ => false,
         };
@@ -61,6 +65,9 @@ impl Ledger {
                         return Err("the plain run denies a legal book".into());
                     }
                 }
+            }
+            (Record::Judge(message), Reply::Judge(verdict)) if submit(&mut after.to_vec(), message) != *verdict => {
+                return Err("a message is not judged as it would be answered".into());
             }
             (Record::Final { out_party, in_party, position }, Reply::Final { number: number @ (0 | 26), value })
                 if after == self.legal_book =>
@@ -119,6 +126,50 @@ impl Ledger {
                 self.finals.entry((out_party.to_vec(), in_party.to_vec(), position)).or_insert(value);
             }
         }
+    }
+}
+
+/// The character that a reply tells.
+fn character_told(reply: &Reply) -> u8 {
+    match reply {
+        Reply::Open { character, .. } | Reply::Eic(character) => *character,
+        Reply::Submit(verdict) | Reply::Judge(verdict) => verdict.character,
+        _ => 0,
+    }
+}
+
+/// The character that a record's codes ask for under its reply's number: of the first code that is
+/// no EIC, among those that the number speaks of.
+fn character_due(record: &Record, reply: &Reply) -> u8 {
+    let codes: Vec<&[u8]> = match (record, reply) {
+        (Record::Eic(text), _) => vec![text],
+        (Record::Open { area, receiver, .. }, Reply::Open { number: 21, .. }) => vec![area, receiver],
+        (Record::Submit(message), Reply::Submit(verdict)) | (Record::Judge(message), Reply::Judge(verdict)) => {
+            let series = usize::from(verdict.series) * BLOCK_BYTES;
+            match verdict.number() {
+                4 => vec![&message[SENDER..SENDER + 16]],
+                8 => [IN_PARTY, OUT_PARTY].iter().map(|at| &message[series + at..series + at + 16]).collect(),
+                _ => vec![],
+            }
+        }
+        _ => vec![],
+    };
+    codes.into_iter().map(plain_character).find(|&character| character != 0).unwrap_or(0)
+}
+
+/// Which character of a code is wrong, by another reckoning: the sixteenth has the weight 1, and all
+/// sixteen together give a multiple of 37.
+fn plain_character(code: &[u8]) -> u8 {
+    let alphabet = b"0123456789ABCDEFGHIJKLMNOPQRSTUVWXYZ-";
+    let values: Vec<usize> =
+        code.iter().map_while(|byte| alphabet.iter().position(|character| character == byte)).collect();
+    if values.len() < 15 {
+        return values.len() as u8 + 1;
+    }
+    let sum: usize = values.iter().zip((1..=16).rev()).map(|(value, weight)| value * weight).sum();
+    match values[15..] {
+        [last] if code.len() == 16 && last != 36 && sum > last && sum % 37 == 0 => 0,
+        _ => 16,
     }
 }
 

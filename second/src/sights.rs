@@ -6,12 +6,14 @@ use crate::clause::cases;
 use crate::counts::{Position, LATEST_MINUTE, LONGEST_LEAD};
 use crate::crafted::sealed;
 use crate::desk::Reply;
-use crate::identifier::{fails_by_hyphen_alone, is_valid_eic};
+use crate::identifier::{fails_by_hyphen_alone, is_valid_eic, wrong_character, NO_VALUE, VALUES as CHARACTERS};
 use crate::listing::MOST_BYTES;
 use crate::names::read_carelessly;
-use crate::sound::MOST_BLOCKS;
+use crate::sound::{is_day, MOST_BLOCKS};
 use crate::stream::Record;
-use crate::submission::{submit, Broken, Verdict};
+use crate::submission::{judge, Broken, Verdict};
+
+const FIFTEEN_ZEROS: [u8; 15] = [b'0'; 15];
 
 cases! {
     /// What a call showed beside its number.
@@ -46,6 +48,24 @@ cases! {
         HyphenOutParty "rule 8 for the out party's hyphen",
         HyphenEic "eic refused for its hyphen",
         LookAlikeEic "eic refused for a look-alike of a character",
+        EicZeros "eic of fifteen zeros",
+        EicSecondWrong "eic with a second character that is not allowed",
+        EicEndsEarly "eic too short, nothing else wrong",
+        EicShortAndWrong "eic too short, and wrong before its end",
+        EicTooLong "eic too long, nothing else wrong",
+        EicLongAndWrong "eic too long, and wrong before the sixteenth",
+        OpenBothCodes "open 21, area and receiver wrong at different characters",
+        OpenReceiverAlone "open 21, of the two codes the receiver alone wrong",
+        OpenCodeAndOther "open 21, a code and n, lead or day wrong",
+        OpenCodeShort "open 21, area or receiver too short, nothing else wrong in it",
+        OpenCodeLong "open 21, area or receiver too long, nothing else wrong in it",
+        OpenLengthAndCode "open 20, a code wrong",
+        BothParties "rule 8, both parties wrong at different characters",
+        EqualWrongParties "rule 8, one wrong code as both parties",
+        Zeros "rule 4 or 8 for fifteen zeros",
+        UnjudgedSender "rule 1, 2 or 3, the sender not an EIC",
+        UnjudgedParty "rule 7, a party not an EIC",
+        UnjudgedArea "rule 9, an area not an EIC",
         MarkState1 "mark in state 1",
         MarkState2 "mark in state 2",
         MarkState3 "mark in state 3",
@@ -65,8 +85,6 @@ cases! {
         ReaderEmpty "reader gives an empty part",
         WalkWhole "walk over a whole message",
         WalkNothing "walk over nothing",
-        EicValid "eic valid",
-        EicInvalid "eic invalid",
         IdWellFormed "id well formed",
         IdMalformed "id malformed",
         CheckRight "check right",
@@ -81,13 +99,21 @@ pub fn sights(record: &Record, reply: &Reply, book: &[u8]) -> Vec<Sight> {
     match (record, reply) {
         (Record::Submit(message), Reply::Submit(verdict)) => match verdict.broken {
             None => acceptance(message, book),
-            Some(broken) => refusal(message, verdict, broken, book),
+            Some(broken) => [refusal(message, verdict, broken, book), codes_of_refusal(message, verdict)].concat(),
         },
-        (Record::Open { lead, area, receiver, .. }, Reply::Open(21)) => refused_opening(*lead, area, receiver),
+        (Record::Open { n, lead, day, area, receiver }, Reply::Open { number: 21, .. }) => {
+            let other = !matches!(n, 92 | 96 | 100) || *lead > LONGEST_LEAD || !is_day(day);
+            let mut seen = held(&[(*lead == LONGEST_LEAD + 1, Sight::LeadBeyondLongest)]);
+            seen.extend(codes_of_opening(area, receiver, other));
+            seen
+        }
+        (Record::Open { area, receiver, .. }, Reply::Open { number: 20, .. }) => {
+            held(&[(!is_valid_eic(area) || !is_valid_eic(receiver), Sight::OpenLengthAndCode)])
+        }
         (Record::Clock(minute), Reply::Clock { number: 22, .. }) => {
             held(&[(*minute == LATEST_MINUTE + 1, Sight::ClockBeyondLast)])
         }
-        (Record::Eic(text), Reply::Eic(false)) => refused_eic(text),
+        (Record::Eic(text), Reply::Eic(character)) => code_checked(text, *character),
         (Record::Listing, Reply::Listing(text)) => listing_given(text, book.len()),
         (Record::Final { out_party, in_party, .. }, Reply::Final { number: 0, value }) => {
             final_given(out_party, in_party, *value, book)
@@ -110,7 +136,6 @@ fn plain_sight(reply: &Reply) -> Option<Sight> {
         Reply::Sound(yes) => either(*yes, Sight::SoundYes, Sight::SoundNo),
         Reply::Reader(series) => either(series.is_empty(), Sight::ReaderEmpty, Sight::ReaderSeries),
         Reply::Walk { count, .. } => either(*count == 0, Sight::WalkNothing, Sight::WalkWhole),
-        Reply::Eic(yes) => either(*yes, Sight::EicValid, Sight::EicInvalid),
         Reply::Id(yes) => either(*yes, Sight::IdWellFormed, Sight::IdMalformed),
         Reply::Check { right, .. } => either(*right, Sight::CheckRight, Sight::CheckWrong),
         Reply::Seal(_) => Some(Sight::Seal),
@@ -210,17 +235,73 @@ fn later_series_breaks_earlier_rule(message: &[u8], verdict: &Verdict, book: &[u
     list.drain(1..=usize::from(verdict.series));
     let count = list.len() as u16 - 1;
     put_u16(&mut list[0], COUNT, count);
-    let later = submit(&mut book.to_vec(), &sealed(list));
+    let later = judge(book, &sealed(list));
     later.series > 0 && later.number() < verdict.number()
 }
 
-fn refused_eic(text: &[u8]) -> Vec<Sight> {
-    let look_alike = <Field>::try_from(text).map_or(false, |code| is_valid_eic(&read_carelessly(&code)));
+/// What the codes of a refused message show that its number and character don't tell.
+fn codes_of_refusal(message: &[u8], verdict: &Verdict) -> Vec<Sight> {
+    let number = verdict.number();
+    if verdict.series == 0 {
+        let sender = message.get(SENDER..SENDER + 16).unwrap_or(&[]);
+        return held(&[
+            (number == 4 && sender.starts_with(&FIFTEEN_ZEROS), Sight::Zeros),
+            (number <= 3 && sender.len() == 16 && !is_valid_eic(sender), Sight::UnjudgedSender),
+        ]);
+    }
+    let series = block_at(message, usize::from(verdict.series));
+    let (in_party, out_party) = pair(series);
+    let (of_in, of_out) = (wrong_character(&in_party), wrong_character(&out_party));
+    let decided = if of_in != 0 { in_party } else { out_party };
+    let areas_valid = is_valid_eic(&field(series, IN_AREA)) && is_valid_eic(&field(series, OUT_AREA));
     held(&[
-        (true, Sight::EicInvalid),
-        (fails_by_hyphen_alone(text), Sight::HyphenEic),
-        (look_alike, Sight::LookAlikeEic),
+        (number == 8 && of_in != 0 && of_out != 0 && of_in != of_out, Sight::BothParties),
+        (number == 8 && of_in != 0 && in_party == out_party, Sight::EqualWrongParties),
+        (number == 8 && decided.starts_with(&FIFTEEN_ZEROS), Sight::Zeros),
+        (number == 7 && (of_in != 0 || of_out != 0), Sight::UnjudgedParty),
+        (number == 9 && !areas_valid, Sight::UnjudgedArea),
     ])
+}
+
+/// What the codes of an opening refused by 21 show; other tells whether n, lead or day is wrong too.
+fn codes_of_opening(area: &[u8], receiver: &[u8], other: bool) -> Vec<Sight> {
+    let (of_area, of_receiver) = (wrong_character(area), wrong_character(receiver));
+    let decided = if of_area != 0 { area } else { receiver };
+    held(&[
+        (fails_by_hyphen_alone(area) && of_receiver == 0, Sight::HyphenArea),
+        (fails_by_hyphen_alone(receiver) && of_area == 0, Sight::HyphenReceiver),
+        (of_area != 0 && of_receiver != 0 && of_area != of_receiver, Sight::OpenBothCodes),
+        (of_area == 0 && of_receiver != 0, Sight::OpenReceiverAlone),
+        (other && (of_area != 0 || of_receiver != 0), Sight::OpenCodeAndOther),
+        (ends_early(decided), Sight::OpenCodeShort),
+        (only_too_long(decided), Sight::OpenCodeLong),
+    ])
+}
+
+fn code_checked(code: &[u8], character: u8) -> Vec<Sight> {
+    let character = usize::from(character);
+    let not_allowed = code.iter().take(16).filter(|&&byte| CHARACTERS[usize::from(byte)] == NO_VALUE).count();
+    let careless = <Field>::try_from(code).map_or(false, |code| is_valid_eic(&read_carelessly(&code)));
+    held(&[
+        (fails_by_hyphen_alone(code), Sight::HyphenEic),
+        (character != 0 && careless, Sight::LookAlikeEic),
+        (code.len() == 16 && code.starts_with(&FIFTEEN_ZEROS), Sight::EicZeros),
+        (not_allowed > 1, Sight::EicSecondWrong),
+        (ends_early(code), Sight::EicEndsEarly),
+        (code.len() < 16 && character <= code.len(), Sight::EicShortAndWrong),
+        (only_too_long(code), Sight::EicTooLong),
+        (code.len() > 16 && character < 16, Sight::EicLongAndWrong),
+    ])
+}
+
+/// Whether a code lacks characters, and those it has are allowed.
+fn ends_early(code: &[u8]) -> bool {
+    code.len() < 16 && usize::from(wrong_character(code)) == code.len() + 1
+}
+
+/// Whether a code would be valid, did it end with its sixteenth character.
+fn only_too_long(code: &[u8]) -> bool {
+    code.len() > 16 && is_valid_eic(&code[..16])
 }
 
 fn listing_given(text: &[u8], length: usize) -> Vec<Sight> {
@@ -233,14 +314,6 @@ fn listing_given(text: &[u8], length: usize) -> Vec<Sight> {
         (printed && length == MOST_BYTES, Sight::ListingLongest),
         (length == MOST_BYTES + 1, Sight::ListingByteMore),
         (length == MOST_BYTES + BLOCK_BYTES, Sight::ListingBlockMore),
-    ])
-}
-
-fn refused_opening(lead: u16, area: &[u8], receiver: &[u8]) -> Vec<Sight> {
-    held(&[
-        (lead == LONGEST_LEAD + 1, Sight::LeadBeyondLongest),
-        (fails_by_hyphen_alone(area) && is_valid_eic(receiver), Sight::HyphenArea),
-        (fails_by_hyphen_alone(receiver) && is_valid_eic(area), Sight::HyphenReceiver),
     ])
 }
 

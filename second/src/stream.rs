@@ -37,6 +37,7 @@ pub enum Record {
     Check(Box<Block>),
     Seal(Box<Block>),
     Code(u8),
+    Judge(Vec<u8>),
 }
 
 /// Why reading stopped.
@@ -68,6 +69,7 @@ const TAG_PRINT: u8 = 19;
 const TAG_CHECK: u8 = 20;
 const TAG_SEAL: u8 = 21;
 const TAG_CODE: u8 = 22;
+const TAG_JUDGE: u8 = 23;
 
 /// The fewest and the most bytes a body of this kind may have; nothing for an unknown tag.
 pub fn body_limits(tag: u8) -> Option<(usize, usize)> {
@@ -77,7 +79,7 @@ pub fn body_limits(tag: u8) -> Option<(usize, usize)> {
         TAG_BOOK | TAG_SUM | TAG_PLAIN | TAG_LISTING | TAG_SOUND => (0, 0),
         TAG_OPEN => (6, 6 + 3 * MOST_TEXT_BYTES),
         TAG_CLOCK => (2, 2),
-        TAG_SUBMIT | TAG_WALK => (0, MOST_MESSAGE_BYTES),
+        TAG_SUBMIT | TAG_WALK | TAG_JUDGE => (0, MOST_MESSAGE_BYTES),
         TAG_MARK | TAG_BLOCK => (2, 2 + 2 * MOST_TEXT_BYTES),
         TAG_FINAL => (4, 4 + 2 * MOST_TEXT_BYTES),
         TAG_READER => (2, 2 + MOST_MESSAGE_BYTES),
@@ -90,9 +92,9 @@ pub fn body_limits(tag: u8) -> Option<(usize, usize)> {
 }
 
 /// The words of the calls, in the order of their tags.
-pub const CALL_WORDS: [&str; 18] = [
+pub const CALL_WORDS: [&str; 19] = [
     "open", "clock", "submit", "mark", "block", "final", "plain", "reader", "walk", "listing", "sound", "eic", "id",
-    "read", "print", "check", "seal", "code",
+    "read", "print", "check", "seal", "code", "judge",
 ];
 
 /// The records that turn one book into another: a new length where it differs, then the blocks that
@@ -145,6 +147,7 @@ impl Record {
                 | Record::Plain
                 | Record::Listing
                 | Record::Sound
+                | Record::Judge(_)
         )
     }
 
@@ -180,6 +183,7 @@ impl Record {
             Record::Check(_) => TAG_CHECK,
             Record::Seal(_) => TAG_SEAL,
             Record::Code(_) => TAG_CODE,
+            Record::Judge(_) => TAG_JUDGE,
         }
     }
 
@@ -213,7 +217,7 @@ impl Record {
                 body.extend(number.to_le_bytes());
                 body.extend(message);
             }
-            Record::Submit(bytes) | Record::Walk(bytes) => body.extend(bytes),
+            Record::Submit(bytes) | Record::Walk(bytes) | Record::Judge(bytes) => body.extend(bytes),
             Record::Eic(text) | Record::Id(text) | Record::Read(text) => body.extend(text),
             Record::Print { quantity, buffer } => {
                 body.extend(quantity.to_le_bytes());
@@ -276,6 +280,7 @@ fn fill(input: &mut impl Read, buffer: &mut [u8]) -> Result<bool, Stop> {
 }
 
 fn put_name(body: &mut Vec<u8>, name: &[u8]) {
+    assert!(name.len() <= MOST_TEXT_BYTES, "a name of {} bytes would be malformed", name.len());
     body.push(name.len() as u8);
     body.extend(name);
 }
@@ -355,6 +360,7 @@ fn decode(tag: u8, body: &[u8]) -> Option<Record> {
         TAG_CHECK => Record::Check(fields.block()?),
         TAG_SEAL => Record::Seal(fields.block()?),
         TAG_CODE => Record::Code(fields.u8()?),
+        TAG_JUDGE => Record::Judge(fields.rest()),
         _ => return None,
     };
     fields.0.is_empty().then_some(record)
@@ -379,6 +385,7 @@ mod tests {
             Record::Reader { number: 2, message: vec![9; 1_024] },
             Record::Print { quantity: 5, buffer: vec![] },
             Record::Seal(Box::new([5; BLOCK_BYTES])),
+            Record::Judge(vec![8; 700]),
         ];
         let mut stream = Vec::new();
         for record in &records {
@@ -395,7 +402,7 @@ mod tests {
     fn malformed_streams_are_noticed() {
         assert!(matches!(read(&[]), Ok(None)));
         assert!(matches!(read(&[0, 0, 0, 0, 0]), Err(Stop::Malformed)));
-        assert!(matches!(read(&[23, 0, 0, 0, 0]), Err(Stop::Malformed)));
+        assert!(matches!(read(&[24, 0, 0, 0, 0]), Err(Stop::Malformed)));
         assert!(matches!(read(&[3]), Err(Stop::Malformed)));
         assert!(matches!(read(&[3, 0, 0, 0]), Err(Stop::Malformed)));
         assert!(matches!(read(&[3, 1, 0, 0, 0, 0]), Err(Stop::Malformed)));

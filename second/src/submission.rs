@@ -10,7 +10,7 @@ use crate::book::SoundBook;
 use crate::clause::clauses;
 use crate::codes::reason_code;
 use crate::counts::{Position, Slot};
-use crate::identifier::{is_valid_eic, is_well_formed_id};
+use crate::identifier::{is_well_formed_id, wrong_character};
 use crate::message;
 
 clauses! {
@@ -79,12 +79,15 @@ impl Broken {
     }
 }
 
-/// The answer to a submission. Series number and position are 0 where the rule gives none.
+/// The answer to a submission. Series number, position and wrong character are 0 where the rule gives
+/// none.
 #[derive(Clone, Copy, Debug, PartialEq, Eq)]
 pub struct Verdict {
     pub broken: Option<Broken>,
     pub series: u16,
     pub position: Position,
+    /// The wrong character of the sender's code on 4, of a party's on 8.
+    pub character: u8,
 }
 
 impl Verdict {
@@ -96,24 +99,27 @@ impl Verdict {
         reason_code(self.number())
     }
 
+    const ACCEPTED: Verdict = Verdict { broken: None, series: 0, position: Position(0), character: 0 };
+
     fn refused(broken: Broken) -> Self {
-        Verdict { broken: Some(broken), series: 0, position: Position(0) }
+        Verdict { broken: Some(broken), ..Verdict::ACCEPTED }
     }
 }
 
 /// Judges a message against a book and, if no rule is broken, enters it.
 pub fn submit(book: &mut [u8], message: &[u8]) -> Verdict {
-    let judged = match SoundBook::of(book) {
-        None => Err(Verdict::refused(Broken::BookNotSound)),
-        Some(sound) => judge(&sound, message),
-    };
-    match judged {
+    match plan_for(book, message) {
         Err(refusal) => refusal,
         Ok(plan) => {
             enter(book, message, &plan);
-            Verdict { broken: None, series: 0, position: Position(0) }
+            Verdict::ACCEPTED
         }
     }
+}
+
+/// What a submission would answer, the book left as it is.
+pub fn judge(book: &[u8], message: &[u8]) -> Verdict {
+    plan_for(book, message).err().unwrap_or(Verdict::ACCEPTED)
 }
 
 /// Where the blocks of an acceptable message go.
@@ -139,28 +145,30 @@ struct Stored<'book> {
     id_by_pair: HashMap<(Field, Field), Field>,
 }
 
-/// Rules 2 to 17, in their order.
-fn judge(book: &SoundBook, message: &[u8]) -> Result<Plan, Verdict> {
+/// All rules, in their order.
+fn plan_for(book: &[u8], message: &[u8]) -> Result<Plan, Verdict> {
+    let book = &SoundBook::of(book).ok_or(Verdict::refused(Broken::BookNotSound))?;
     if message::broken_clauses(message) != 0 {
         return Err(Verdict::refused(Broken::MessageForm));
     }
     let head = block_at(message, 0);
     let sender = field(head, SENDER);
     let stored = stored_of(book, &sender);
-    judge_head(book, head, &stored).map_err(Verdict::refused)?;
+    judge_head(book, head, &stored)?;
 
     let mut places: Vec<Option<(Slot, bool)>> = Vec::new();
     let mut ids: HashSet<Field> = HashSet::new();
     let mut pairs: HashSet<(Field, Field)> = HashSet::new();
     for (series, number) in blocks(message).skip(1).zip(1u16..) {
         let before = stored.by_id.get(&field(series, ID)).copied();
-        let refuse = |(broken, position)| Verdict { broken: Some(broken), series: number, position };
-        let none = |broken| refuse((broken, Position(0)));
-        judge_id_and_pair(series, before, &stored, &mut ids, &mut pairs).map_err(none)?;
-        judge_parties(series, &sender).map_err(none)?;
-        judge_kind_of_trade(series, book.day()).map_err(none)?;
-        let changed = judge_quantities(series, before.map(|(_, block)| block), book).map_err(refuse)?;
-        judge_series_version(series, before.map(|(_, block)| block), changed, u16_at(head, VERSION)).map_err(none)?;
+        let refuse = |broken| Verdict { series: number, ..Verdict::refused(broken) };
+        let at_position = |(broken, position)| Verdict { position, ..refuse(broken) };
+        let at_character = |(broken, character)| Verdict { character, ..refuse(broken) };
+        judge_id_and_pair(series, before, &stored, &mut ids, &mut pairs).map_err(refuse)?;
+        judge_parties(series, &sender).map_err(at_character)?;
+        judge_kind_of_trade(series, book.day()).map_err(refuse)?;
+        let changed = judge_quantities(series, before.map(|(_, block)| block), book).map_err(at_position)?;
+        judge_series_version(series, before.map(|(_, block)| block), changed, u16_at(head, VERSION)).map_err(refuse)?;
         places.push(before.map(|(slot, _)| (slot, changed)));
     }
 
@@ -187,15 +195,20 @@ fn stored_of<'book>(book: &SoundBook<'book>, sender: &Field) -> Stored<'book> {
     stored
 }
 
-/// Rules 3 to 6.
-fn judge_head(book: &SoundBook, head: &Block, stored: &Stored) -> Result<(), Broken> {
+/// Rules 3 to 6. Rule 4 tells which character of the sender's code is wrong.
+fn judge_head(book: &SoundBook, head: &Block, stored: &Stored) -> Result<(), Verdict> {
+    if field(head, RECEIVER) != field(book.day(), RECEIVER) {
+        return Err(Verdict::refused(Broken::Receiver));
+    }
+    match wrong_character(&field(head, SENDER)) {
+        0 => judge_day_and_version(book, head, stored).map_err(Verdict::refused),
+        character => Err(Verdict { character, ..Verdict::refused(Broken::SenderEic) }),
+    }
+}
+
+/// Rules 5 and 6.
+fn judge_day_and_version(book: &SoundBook, head: &Block, stored: &Stored) -> Result<(), Broken> {
     let day = book.day();
-    if field(head, RECEIVER) != field(day, RECEIVER) {
-        return Err(Broken::Receiver);
-    }
-    if !is_valid_eic(&field(head, SENDER)) {
-        return Err(Broken::SenderEic);
-    }
     if head[DAY_IN_SENDER..DAY_IN_SENDER + DAY_DIGITS] != day[DAY_IN_DAY_BLOCK..DAY_IN_DAY_BLOCK + DAY_DIGITS] {
         return Err(Broken::Day);
     }
@@ -252,19 +265,16 @@ fn judge_id_and_pair(
     Ok(())
 }
 
-/// Rule 8.
-fn judge_parties(series: &Block, sender: &Field) -> Result<(), Broken> {
+/// Rule 8, with the wrong character of the party that broke it: the in party is judged first, and
+/// there is none where both codes are good.
+fn judge_parties(series: &Block, sender: &Field) -> Result<(), (Broken, u8)> {
     let (in_party, out_party) = pair(series);
-    if !is_valid_eic(&in_party) {
-        Err(Broken::InParty)
-    } else if !is_valid_eic(&out_party) {
-        Err(Broken::OutParty)
-    } else if in_party == out_party {
-        Err(Broken::PartiesEqual)
-    } else if in_party != *sender && out_party != *sender {
-        Err(Broken::NeitherSender)
-    } else {
-        Ok(())
+    match (wrong_character(&in_party), wrong_character(&out_party)) {
+        (0, 0) if in_party == out_party => Err((Broken::PartiesEqual, 0)),
+        (0, 0) if in_party != *sender && out_party != *sender => Err((Broken::NeitherSender, 0)),
+        (0, 0) => Ok(()),
+        (0, of_out_party) => Err((Broken::OutParty, of_out_party)),
+        (of_in_party, _) => Err((Broken::InParty, of_in_party)),
     }
 }
 

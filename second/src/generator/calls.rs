@@ -1,4 +1,4 @@
-//! Every call but the submission, and calls on damaged and broken books.
+//! Every call but submitting and judging, and calls on damaged and broken books.
 
 use super::{flip_and_reseal, Generator, Repair};
 use crate::block::*;
@@ -39,7 +39,7 @@ impl Generator {
         // The minute at which clock plus lead just reaches the beginning of a position.
         let edge = |position: usize| (usize::from(DAY_START) + 15 * (position - 1)) as i32 - i32::from(lead);
         let first_open = first_open(day).min(100);
-        let minute = match random.weighted(&[4, 3, 14, 30, 5, 3, 2, 1]) {
+        let minute = match random.weighted(&[4, 3, 14, 30, 5, 5, 2, 1]) {
             0 => i32::from(kept),
             1 => i32::from(kept) + 1,
             2 => edge(usize::from(first_open)) + random.below(3) as i32 - 1,
@@ -191,18 +191,22 @@ impl Generator {
 
     /// A call that begins by asking whether the book is sound. It is made for the book given.
     pub(super) fn book_call(&mut self, book: &[u8]) {
-        match self.random.below(8) {
+        match self.random.below(9) {
             0 => self.queue.push_back(Record::Sound),
             1 => {
                 let message = self.message(book);
                 self.queue.push_back(Record::Submit(message));
                 self.queue.push_back(Record::Sum);
             }
-            2 => self.mark_or_block(book, true),
-            3 => self.mark_or_block(book, false),
-            4 => self.final_reading(book),
-            5 => self.queue.push_back(Record::Plain),
-            6 => self.queue.push_back(Record::Listing),
+            2 => {
+                let message = self.message(book);
+                self.judge_and_show(message);
+            }
+            3 => self.mark_or_block(book, true),
+            4 => self.mark_or_block(book, false),
+            5 => self.final_reading(book),
+            6 => self.queue.push_back(Record::Plain),
+            7 => self.queue.push_back(Record::Listing),
             _ => self.clock(book),
         }
     }
@@ -210,7 +214,11 @@ impl Generator {
     /// Calls that need no book.
     pub(super) fn leaf(&mut self) {
         let random = &mut self.random;
-        let record = match random.weighted(&[7, 4, 7, 4, 2, 2, 8]) {
+        let record = match random.weighted(&[12, 4, 7, 4, 2, 2, 8]) {
+            0 if random.percent(60) => {
+                let character = self.wrong_texts.deal(random);
+                Record::Eic(names::wrong_text_at(random, character))
+            }
             0 => {
                 let valid = random.pick(&self.pool);
                 Record::Eic(texts::eic(random, &valid))

@@ -3,12 +3,22 @@
 use super::{flip_and_reseal, senders_of, Climber, Episode, Generator, BEYOND_CLIMB};
 use crate::block::*;
 use crate::breach::break_book;
+use crate::clause::cases;
 use crate::counts::{DAY_START, LONGEST_LEAD};
 use crate::crafted::{self, Shape};
 use crate::draft::{Draft, Growth, New};
 use crate::names;
 use crate::sound::{is_sound, FEWEST_BLOCKS, MOST_BLOCKS};
-use crate::stream::Record;
+use crate::stream::{Record, MOST_TEXT_BYTES};
+
+cases! {
+    /// Which code of an opening is wrong.
+    WrongOpening {
+        Area,
+        Receiver,
+        Both,
+    }
+}
 
 impl Generator {
     pub(super) fn start_episode(&mut self, book: &[u8]) {
@@ -43,8 +53,8 @@ impl Generator {
         let random = &mut self.random;
         random.shuffle(&mut self.pool);
         let (partners, left) = match episode {
-            Episode::Small => (random.between(2, 5), random.between(20, 120)),
-            Episode::Middling => (random.between(4, 20), random.between(40, 160)),
+            Episode::Small => (random.between(2, 5), random.between(15, 90)),
+            Episode::Middling => (random.between(4, 20), random.between(30, 120)),
             Episode::Long => (random.between(60, 200), random.between(20, 40)),
             Episode::Full => (random.between(202, 240), random.between(14, 24)),
             Episode::Limit(_) => (random.between(202, 240), random.between(9, 14)),
@@ -78,15 +88,15 @@ impl Generator {
     /// Opens a book, after a few attempts that fail.
     pub(super) fn opened_book(&mut self) {
         let length = self.blocks() * BLOCK_BYTES;
-        if self.random.percent(14) {
+        if self.random.percent(20) {
             // No book may have these lengths.
             let wrong = self.random.pick(&[0, 1, 511, 512, 513, 1_025, (length - 1) as u32]);
             self.queue.push_back(Record::Length(wrong));
-            let open = self.opening();
+            let open = if self.random.percent(60) { self.wrong_opening() } else { self.opening() };
             self.queue.push_back(open);
         }
         self.queue.push_back(Record::Length(length as u32));
-        while self.random.percent(48) {
+        while self.random.percent(67) {
             let open = self.wrong_opening();
             self.queue.push_back(open);
         }
@@ -116,7 +126,8 @@ impl Generator {
         }
     }
 
-    /// Parameters with one unlawful value among them, sometimes two.
+    /// Parameters with one unlawful value among them, sometimes two; often a code, or both, wrong at the
+    /// character that is next in turn.
     pub(super) fn wrong_opening(&mut self) -> Record {
         let mut opening = self.opening();
         let random = &mut self.random;
@@ -124,26 +135,40 @@ impl Generator {
             Record::Open { n, lead, day, area, receiver } => (n, lead, day, area, receiver),
             _ => unreachable!("an opening was made"),
         };
-        for _ in 0..random.pick(&[1, 1, 1, 2]) {
-            match random.below(13) {
+        let mut others = random.pick(&[1, 1, 1, 2]);
+        if random.percent(80) {
+            let (which, character) = self.wrong_openings.deal(random);
+            let wrong = names::wrong_text_at(random, character);
+            match which {
+                WrongOpening::Area => *area = wrong,
+                WrongOpening::Receiver => *receiver = wrong,
+                WrongOpening::Both => {
+                    let other = names::character_number(random);
+                    *area = wrong;
+                    *receiver = names::wrong_text_at(random, other);
+                }
+            }
+            others = usize::from(random.percent(25));
+        }
+        for _ in 0..others {
+            let code = if random.percent(50) { &mut *area } else { &mut *receiver };
+            match random.below(16) {
                 0 => *n = random.pick(&[0, 91, 93, 95, 97, 99, 101, 255, 24]),
                 1 => *lead = random.pick(&[65_535, 2_880]),
-                11 => *lead = LONGEST_LEAD + 1,
-                2 => {
+                2 | 3 => *lead = LONGEST_LEAD + 1,
+                4 => {
                     if let Some(digit) = day.last_mut() {
                         *digit = random.pick(b"/: A\0");
                     }
                 }
-                3 => {
+                5 => {
                     day.pop();
                 }
-                4 => *area = names::invalid_eic(random).to_vec(),
-                5 => *receiver = names::invalid_eic(random).to_vec(),
-                6 => area.push(b'0'),
-                7 | 8 => *area = names::hyphen_eic(random).to_vec(),
-                9 | 10 => *receiver = names::hyphen_eic(random).to_vec(),
+                6 | 7 => *code = names::invalid_eic(random).to_vec(),
+                8..=12 => *code = names::hyphen_eic(random).to_vec(),
+                13 | 14 if code.len() < MOST_TEXT_BYTES => code.push(b'0'),
                 _ => {
-                    receiver.pop();
+                    code.pop();
                 }
             }
         }
@@ -152,7 +177,7 @@ impl Generator {
 
     /// Opens the book again in the midst of an episode, or tries to.
     pub(super) fn reopen(&mut self) {
-        let open = if self.random.percent(40) { self.wrong_opening() } else { self.opening() };
+        let open = if self.random.percent(70) { self.wrong_opening() } else { self.opening() };
         self.queue.push_back(open);
         self.queue.push_back(Record::Sum);
     }

@@ -1,11 +1,11 @@
-//! Messages, lawful and spoilt, and their submission.
+//! Messages, lawful and spoilt, submitted and judged.
 
 use super::{reseal, senders_of, Episode, Generator};
 use crate::block::*;
-use crate::draft::{Draft, Fault, FormFault, Growth, New, Side};
+use crate::draft::{Draft, Fault, FormFault, Growth, New, Side, WrongCode};
 use crate::names;
 use crate::stream::Record;
-use crate::submission::submit;
+use crate::submission::judge;
 
 impl Generator {
     pub(super) fn growth(&mut self, book: &[u8]) -> Growth {
@@ -63,7 +63,7 @@ impl Generator {
         let mut sender = self.sender(book);
         let mut growth = self.growth(book);
         let random = &mut self.random;
-        let kind = random.weighted(&[47, 8, 27, 12, 4, 4, 10, 2, 1]);
+        let kind = random.weighted(&[32, 6, 36, 14, 6, 5, 17, 2, 1]);
         match kind {
             // A message that changes nothing.
             1 => growth = Growth { new: New::UpTo(0), changed: 0, side: None },
@@ -91,7 +91,18 @@ impl Generator {
         for _ in 0..random.pick(&[1, 1, 1, 2, 3]) {
             // Some faults find what they need only now and then, so they get more tries.
             let fault = match random.below(5) {
-                0 => random.pick(&[Fault::ClosedChanged, Fault::ClosedNew, Fault::Absent, Fault::AboveN]),
+                0 => random.pick(&[Fault::Receiver, Fault::AboveN, Fault::AboveN, Fault::Absent, Fault::Absent]),
+                1 => random.pick(&[
+                    Fault::OtherMessageId,
+                    Fault::SeriesId,
+                    Fault::IdTwice,
+                    Fault::IdOtherPair,
+                    Fault::PairTwice,
+                    Fault::EqualParties,
+                    Fault::ClosedChanged,
+                    Fault::ClosedNew,
+                    Fault::Absent,
+                ]),
                 _ => random.pick(Fault::ALL),
             };
             let place = draft.any_place(random);
@@ -110,15 +121,20 @@ impl Generator {
         }
     }
 
-    /// A fault of form that is next in turn, and sometimes others beside it.
-    pub(super) fn spoil_form(&mut self, draft: Draft) -> Vec<u8> {
+    /// A fault of form that is next in turn, and sometimes others beside it, or a sender's code that no
+    /// rule comes to judge.
+    pub(super) fn spoil_form(&mut self, mut draft: Draft) -> Vec<u8> {
         let random = &mut self.random;
+        if random.percent(15) {
+            let character = names::character_number(random);
+            draft.spoil_code(random, WrongCode::Sender, character, &self.partners);
+        }
         let mut faults = vec![self.forms.deal(random)];
         if faults[0] == FormFault::TooLong && random.percent(50) {
             // The long one is large; half as often is often enough.
             faults[0] = self.forms.deal(random);
         }
-        for _ in 0..random.pick(&[0, 0, 0, 1, 2]) {
+        for _ in 0..random.pick(&[0, 0, 0, 0, 1, 2]) {
             faults.push(random.pick(FormFault::ALL));
         }
         draft.finished(random, &faults)
@@ -183,6 +199,13 @@ impl Generator {
         }
     }
 
+    /// A message judged, and the sum that tells that the book is as it was.
+    pub(super) fn judge_and_show(&mut self, message: Vec<u8>) {
+        self.queue.push_back(Record::Judge(message));
+        self.queue.push_back(Record::Sum);
+    }
+
+    /// A message submitted or judged, or both: the one about as often as the other.
     pub(super) fn submission(&mut self, book: &[u8]) {
         let message = self.message(book);
         match self.random.below(40) {
@@ -193,11 +216,38 @@ impl Generator {
             }
             _ => {}
         }
+        // A book grows by what is submitted, so few messages that it takes are judged alone. Judged once
+        // they are in, they are stale.
+        let weights = if is_accepted(book, &message) { [10, 48, 35, 7] } else { [35, 30, 35, 0] };
+        match self.random.weighted(&weights) {
+            0 => self.judge_and_show(message),
+            1 => {
+                self.judge_and_show(message.clone());
+                self.submit_and_show(book, message);
+            }
+            2 => self.submit_and_show(book, message),
+            _ => {
+                self.submit_and_show(book, message.clone());
+                self.judge_and_show(message);
+            }
+        }
+    }
+
+    /// A message in which nothing is wrong but the code that is next in turn, at the character that is,
+    /// judged and submitted.
+    pub(super) fn wrong_code(&mut self, book: &[u8]) {
+        let (sender, growth) = (self.sender(book), self.growth(book));
+        let random = &mut self.random;
+        let mut draft = Draft::lawful(random, book, sender, &self.partners, &growth);
+        let (whose, character) = self.wrong_codes.deal(random);
+        draft.spoil_code(random, whose, character, &self.partners);
+        let message = draft.finished(random, &[]);
+        self.judge_and_show(message.clone());
         self.submit_and_show(book, message);
     }
 }
 
 /// Whether the book as it stands takes the message.
 fn is_accepted(book: &[u8], message: &[u8]) -> bool {
-    submit(&mut book.to_vec(), message).number() == 0
+    judge(book, message).number() == 0
 }
