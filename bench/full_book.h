@@ -28,7 +28,7 @@ static inline void make_book(unsigned senders, unsigned slots) {
     uint8_t area[16], receiver[16];
     memcpy(area, eic(9000), 16);
     memcpy(receiver, eic(9001), 16);
-    if (tetherbay_open(book, sizeof book, N, 45, (const uint8_t *)"20190131", 8, area, 16, receiver, 16)) exit(3);
+    if (tetherbay_open(book, sizeof book, N, 45, (const uint8_t *)"20190131", 8, area, 16, receiver, 16).number) exit(3);
     for (unsigned s = 0; s < senders; s++) {
         unsigned left = slots - (unsigned)used, senders_left = senders - s;
         sender_with_series(s, (left + senders_left - 1) / senders_left - 1);

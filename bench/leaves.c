@@ -5,7 +5,7 @@
 #include <string.h>
 
 static uint8_t blocks[64 * 512];
-static const uint8_t eic[] = "14XBILANZGR-1--F", id[16] = "TS0001", text[] = "9999.999";
+static const uint8_t eic[] = "14XBILANZGR-1--F", wrong_eic[] = "14XBILANZGR-1-aF", id[16] = "TS0001", text[] = "9999.999";
 static uint8_t buffer[16];
 static uint64_t sum;
 
@@ -22,6 +22,7 @@ LOOP(check, sum += tetherbay_check(blocks + 512 * (k % 64), 512))
 LOOP(checks, sum += tetherbay_checks_right(blocks, sizeof blocks))
 LOOP(seal, tetherbay_seal(blocks + 512 * (k % 64), 512))
 LOOP(eic_valid, sum += tetherbay_eic_valid(eic, 16))
+LOOP(eic_character, sum += tetherbay_eic(wrong_eic, 16))
 LOOP(id_well_formed, sum += tetherbay_id_well_formed(id, 16))
 LOOP(quantity_read, sum += tetherbay_quantity_read(text, 8).kilowatts)
 LOOP(quantity_print, sum += tetherbay_quantity_print(9999999, buffer, sizeof buffer).length)
@@ -31,8 +32,8 @@ static const struct {
     const char *name;
     void (*loop)(long);
 } leaves[] = {
-    {"none", none}, {"check", check}, {"checks", checks}, {"seal", seal}, {"eic", eic_valid}, {"id", id_well_formed},
-    {"read", quantity_read}, {"print", quantity_print}, {"code", reason_code},
+    {"none", none}, {"check", check}, {"checks", checks}, {"seal", seal}, {"eic", eic_valid}, {"character", eic_character},
+    {"id", id_well_formed}, {"read", quantity_read}, {"print", quantity_print}, {"code", reason_code},
 };
 
 int main(int argc, char **argv) {

@@ -53,7 +53,7 @@ static void submit(const char *who) {
     tetherbay_seal(message, BLOCK);
     tetherbay_seal(message + BLOCK, BLOCK);
     tetherbay_verdict v = tetherbay_submit(book, sizeof book, message, sizeof message);
-    printf("%s: number %u, code A%02u, series %zu, position %zu\n", who, v.number, v.code, v.series, v.position);
+    printf("%s: number %u, code A%02u, series %zu, position %zu, character %u\n", who, v.number, v.code, v.series, v.position, v.character);
 }
 
 static void print_mark(const char *sender, const char *series_id) {
@@ -71,7 +71,7 @@ static void print_final(size_t position) {
 }
 
 int main(void) {
-    printf("open: number %u\n", tetherbay_open(book, sizeof book, N, 45, bytes(DAY), 8, bytes(AREA), 16, bytes(RECEIVER), 16));
+    printf("open: number %u\n", tetherbay_open(book, sizeof book, N, 45, bytes(DAY), 8, bytes(AREA), 16, bytes(RECEIVER), 16).number);
 
     write_message(SELLER, "SALES", "TS0001", 45000);
     submit("seller");

@@ -37,7 +37,11 @@ bool tetherbay_seal(uint8_t *block, size_t length);
 /* Whether these are sixteen bytes: 1 to 16 of A-Z, 0-9 and hyphen, then zero bytes. */
 bool tetherbay_id_well_formed(const uint8_t *id, size_t length);
 
-/* Whether these are sixteen bytes, and a valid EIC. */
+/* 0 for sixteen bytes that are a valid EIC; else which character is wrong: 1 to 15 for the first that is not allowed (none of 0-9, A-Z and hyphen) or is missing;
+   16 where these fifteen are allowed and the sixteenth is wrong or missing, or is not the last, or where the first fifteen are all 0. */
+uint8_t tetherbay_eic(const uint8_t *code, size_t length);
+
+/* Whether these are sixteen bytes, and a valid EIC: whether tetherbay_eic gives 0. */
 bool tetherbay_eic_valid(const uint8_t *code, size_t length);
 
 /* 0 and the kilowatts; 31 where a minus stands before a quantity text, 30 for any other text. */
@@ -83,11 +87,18 @@ tetherbay_reply_answer tetherbay_reply(uint32_t number);
 /* Whether the buffer is a sound book; the book is only read. Every other call on a book but open asks this first, and refuses with 1 where it is not. */
 bool tetherbay_sound(const uint8_t *book, size_t length);
 
+/* 0, 20 or 21, and on 21 which character is wrong, as tetherbay_eic gives it: of the area, or of the receiver where the area is a valid EIC, whatever else is
+   wrong; 0 where both are valid. */
+typedef struct {
+    uint32_t number;
+    uint8_t character;
+} tetherbay_open_answer;
+
 /* Opens a book for a day of n quarter-hours, whose positions close `lead` minutes before they begin. Alters the book: writes the day block and frees every
    slot, whatever the buffer held. 0; 20 where the length is not that of 2 to 1,001 blocks; else 21 where n is not 92, 96 or 100, the lead above 1,440, the day not
    eight digits, or the area or the receiver not a valid EIC. */
-uint32_t tetherbay_open(uint8_t *book, size_t length, uint8_t n, uint16_t lead, const uint8_t *day, size_t day_length, const uint8_t *area, size_t area_length,
-                        const uint8_t *receiver, size_t receiver_length);
+tetherbay_open_answer tetherbay_open(uint8_t *book, size_t length, uint8_t n, uint16_t lead, const uint8_t *day, size_t day_length, const uint8_t *area,
+                                     size_t area_length, const uint8_t *receiver, size_t receiver_length);
 
 typedef struct {
     uint8_t n;
@@ -106,12 +117,14 @@ typedef struct {
 tetherbay_clock_answer tetherbay_clock(uint8_t *book, size_t length, uint16_t minute);
 
 /* 0, or the number of the first broken rule, 1 to 17, with its reason code (1 for A01 on 0; 0 where a number has none); 7 to 15 give the number of the
-   series and 11 to 14 the position, no other does. */
+   series and 11 to 14 the position, no other does. On 4 and 8 also which character is wrong, as tetherbay_eic gives it: on 4 of the sender; on 8 of the in party (the
+   buyer), or of the out party where the in party is a valid EIC, 0 where both are, and equal or neither the sender. On every other number it is 0. */
 typedef struct {
     uint32_t number;
     uint8_t code;
     size_t series;
     size_t position;
+    uint8_t character;
 } tetherbay_verdict;
 
 /* Judges a message and, on 0, enters it. Alters the book: sender block, series, marks of both sides, nets and checks. */

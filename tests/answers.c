@@ -10,6 +10,12 @@ static void is(const char *what, uint64_t found, uint64_t expected) {
     printf("%s: %llu, not %llu\n", what, (unsigned long long)found, (unsigned long long)expected);
 }
 
+static void is_field(const char *what, const char *field, uint64_t found, uint64_t expected) {
+    char label[80];
+    snprintf(label, sizeof label, "%s, %s", what, field);
+    is(label, found, expected);
+}
+
 static uint8_t book[8 * BLOCK], message[3 * BLOCK];
 
 static const uint8_t *bytes(const char *text) { return (const uint8_t *)text; }
@@ -43,6 +49,27 @@ static void replies(void) {
     replied(UINT32_MAX, TETHERBAY_UNINTERPRETABLE_MESSAGE, 0, 0);
 }
 
+static void named(const char *code, size_t length, uint8_t character) {
+    is_field("EIC", code, tetherbay_eic(bytes(code), length), character);
+    is_field("EIC valid", code, tetherbay_eic_valid(bytes(code), length), character == 0);
+}
+
+static void characters(void) {
+    named("10XAT-APG------Z", 16, 0);
+    named("a0XAT-APG------Z", 16, 1);
+    named("10XAT-aPG------Z", 16, 7);
+    named("10XAT-APG-----aZ", 16, 15);
+    named("10XAT-APG------Y", 16, 16);
+    named("10XAT-APG------a", 16, 16);
+    named("10XAT-aPG-----aY", 16, 7);
+    named("0000000000000000", 16, 16); /* the sixteenth would be due if fifteen zeros were allowed */
+    named("000000000000000A", 16, 16);
+    named("", 0, 1);
+    named("10XAT-APG------", 15, 16);
+    named("10XAT-APG------Z0", 17, 16);
+    named("10XAT-aPG------Z0", 17, 7);
+}
+
 static void leaves(void) {
     uint8_t block[BLOCK] = {0}, id[16] = "TS0001", text[10] = "..........";
     block[506] = 1;
@@ -56,8 +83,7 @@ static void leaves(void) {
     is("check, all its bits", tetherbay_check(block, BLOCK), 1715091520);
     is("id", tetherbay_id_well_formed(id, 16), true);
     is("id, a space", tetherbay_id_well_formed(bytes("TS 0001---------"), 16), false);
-    is("EIC", tetherbay_eic_valid(bytes("10XAT-APG------Z"), 16), true);
-    is("EIC, another last character", tetherbay_eic_valid(bytes("10XAT-APG------Y"), 16), false);
+    characters();
     is("read, number", tetherbay_quantity_read(bytes("9999.999"), 8).number, 0);
     is("read, kilowatts", tetherbay_quantity_read(bytes("9999.999"), 8).kilowatts, 9999999);
     is("read, 30", tetherbay_quantity_read(bytes("10000"), 5).number, 30);
@@ -74,8 +100,26 @@ static void leaves(void) {
     replies();
 }
 
-static uint32_t opened(uint8_t n, uint16_t lead, size_t length) {
-    return tetherbay_open(book, length, n, lead, bytes("20190131"), 8, bytes("10YAT-APG------L"), 16, bytes("14XAT-APCS-----Q"), 16);
+static void opened(const char *what, tetherbay_open_answer a, uint32_t number, uint8_t character) {
+    is_field(what, "number", a.number, number);
+    is_field(what, "character", a.character, character);
+}
+
+/* Each wrong code has its first wrong character elsewhere. The last opening is accepted. */
+static void openings(void) {
+    const uint8_t *day = bytes("20190131"), *area = bytes("10YAT-APG------L"), *receiver = bytes("14XAT-APCS-----Q");
+    const uint8_t *wrong_area = bytes("10YAT-aPG------L"), *wrong_receiver = bytes("14XAT-APCS-----R");
+    size_t length = sizeof book;
+    opened("open, another length", tetherbay_open(book, length - 1, 100, 1440, day, 8, wrong_area, 16, receiver, 16), 20, 0);
+    opened("open, n", tetherbay_open(book, length, 93, 1440, day, 8, area, 16, receiver, 16), 21, 0);
+    opened("open, lead", tetherbay_open(book, length, 100, 65535, day, 8, area, 16, receiver, 16), 21, 0);
+    opened("open, area", tetherbay_open(book, length, 100, 1440, day, 8, wrong_area, 16, receiver, 16), 21, 7);
+    opened("open, receiver", tetherbay_open(book, length, 100, 1440, day, 8, area, 16, wrong_receiver, 16), 21, 16);
+    opened("open, area and receiver", tetherbay_open(book, length, 100, 1440, day, 8, wrong_area, 16, wrong_receiver, 16), 21, 7);
+    opened("open, n and receiver", tetherbay_open(book, length, 93, 1440, day, 8, area, 16, wrong_receiver, 16), 21, 16);
+    opened("open, an area of fifteen", tetherbay_open(book, length, 100, 1440, day, 8, area, 15, receiver, 16), 21, 16);
+    opened("open, an area of five", tetherbay_open(book, length, 100, 1440, day, 8, area, 5, receiver, 16), 21, 6);
+    opened("open", tetherbay_open(book, length, 100, 1440, day, 8, area, 16, receiver, 16), 0, 0);
 }
 
 static void seal_message(void) {
@@ -90,9 +134,43 @@ static void write_message(unsigned party) {
     seal_message();
 }
 
+static void verdict(const char *what, tetherbay_verdict v, tetherbay_verdict expected) {
+    is_field(what, "number", v.number, expected.number);
+    is_field(what, "code", v.code, expected.code);
+    is_field(what, "series", v.series, expected.series);
+    is_field(what, "position", v.position, expected.position);
+    is_field(what, "character", v.character, expected.character);
+}
+
+/* Both calls answer so, and the next message is party 2's once more. */
+static void refused(const char *what, tetherbay_verdict expected) {
+    seal_message();
+    verdict(what, tetherbay_judge(book, sizeof book, message, sizeof message), expected);
+    verdict(what, tetherbay_submit(book, sizeof book, message, sizeof message), expected);
+    write_message(2);
+}
+
+static void wrong_codes(void) {
+    uint8_t *sender = message + 24, *in_party = message + 2 * BLOCK + 56, *out_party = message + 2 * BLOCK + 72;
+    write_message(2);
+    sender[6] = 'a';
+    refused("sender", (tetherbay_verdict){4, 78, 0, 0, 7});
+    in_party[0] = 'a';
+    refused("in party", (tetherbay_verdict){8, 22, 2, 0, 1});
+    out_party[14] = 'a';
+    refused("out party", (tetherbay_verdict){8, 22, 2, 0, 15});
+    in_party[15] ^= 1;
+    out_party[0] = 'a';
+    refused("both parties", (tetherbay_verdict){8, 22, 2, 0, 16});
+    memcpy(out_party, in_party, 16);
+    refused("parties equal", (tetherbay_verdict){8, 22, 2, 0, 0});
+    memcpy(in_party, eic(4), 16);
+    refused("neither the sender", (tetherbay_verdict){8, 22, 2, 0, 0});
+}
+
 static void submissions(void) {
     write_message(1);
-    is("submit, number", tetherbay_submit(book, sizeof book, message, sizeof message).number, 0);
+    verdict("submit", tetherbay_submit(book, sizeof book, message, sizeof message), (tetherbay_verdict){0, 1, 0, 0, 0});
     tetherbay_part p = tetherbay_series(message, sizeof message, 2);
     is("series, offset", p.offset, 2 * BLOCK);
     is("series, length", p.length, BLOCK);
@@ -100,26 +178,13 @@ static void submissions(void) {
     is("series past the last, offset", p.offset, 0);
     is("series past the last, length", p.length, 0);
 
-    write_message(2);
+    wrong_codes();
     put(message + 2 * BLOCK + 108 + 4 * 98, 4, 0x80000000);
-    seal_message();
-    tetherbay_verdict v = tetherbay_judge(book, sizeof book, message, sizeof message);
-    is("judge, number", v.number, 11);
-    is("judge, code", v.code, 46);
-    is("judge, series", v.series, 2);
-    is("judge, position", v.position, 99);
-    v = tetherbay_submit(book, sizeof book, message, sizeof message);
-    is("submit refused, number", v.number, 11);
-    is("submit refused, code", v.code, 46);
-    is("submit refused, series", v.series, 2);
-    is("submit refused, position", v.position, 99);
+    refused("top bit", (tetherbay_verdict){11, 46, 2, 99, 0});
 
-    write_message(2);
     put(message + BLOCK + 108 + 4 * 99, 4, 7);
     seal_message();
-    v = tetherbay_submit(book, sizeof book, message, sizeof message);
-    is("submit the other side, number", v.number, 0);
-    is("submit the other side, code", v.code, 1);
+    verdict("submit the other side", tetherbay_submit(book, sizeof book, message, sizeof message), (tetherbay_verdict){0, 1, 0, 0, 0});
 }
 
 /* Slots 1 to 6: party 1 and its two series, party 2 and its two. They differ at position 100. */
@@ -164,10 +229,7 @@ static void readings(void) {
 
 int main(void) {
     leaves();
-    is("open, 20", opened(100, 1440, sizeof book - 1), 20);
-    is("open, 21, n", opened(93, 1440, sizeof book), 21);
-    is("open, 21, lead", opened(100, 65535, sizeof book), 21);
-    is("open", opened(100, 1440, sizeof book), 0);
+    openings();
     submissions();
     readings();
     is("sound", tetherbay_sound(book, sizeof book), true);

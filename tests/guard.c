@@ -224,6 +224,11 @@ static void call_id_well_formed(void) {
     tetherbay_id_well_formed(id, fields[0].length);
 }
 
+static void call_eic(void) {
+    const uint8_t *code = lend_field(0, 24);
+    if (tetherbay_eic(code, fields[0].length) > 16) fail("a character behind the sixteenth");
+}
+
 static void call_eic_valid(void) {
     const uint8_t *code = lend_field(0, 24);
     tetherbay_eic_valid(code, fields[0].length);
@@ -332,6 +337,7 @@ static const struct {
     {"tetherbay_checks_right", call_checks_right},
     {"tetherbay_seal", call_seal},
     {"tetherbay_id_well_formed", call_id_well_formed},
+    {"tetherbay_eic", call_eic},
     {"tetherbay_eic_valid", call_eic_valid},
     {"tetherbay_quantity_read", call_quantity_read},
     {"tetherbay_quantity_print", call_quantity_print},
@@ -357,7 +363,7 @@ static void open_desk(void) {
     memcpy(area, eic(9000), 16);
     memcpy(receiver, eic(9001), 16);
     desk_length = BLOCK * (size_t)(one_in(20) ? MOST_BLOCKS : one_in(4) ? 2 + below(200) : 2 + below(30));
-    if (tetherbay_open(desk, desk_length, days[below(3)], (uint16_t)below(100), (const uint8_t *)"20190131", 8, area, 16, receiver, 16)) fail("the desk is not opened");
+    if (tetherbay_open(desk, desk_length, days[below(3)], (uint16_t)below(100), (const uint8_t *)"20190131", 8, area, 16, receiver, 16).number) fail("the desk is not opened");
     message_length = 0;
 }
 

@@ -61,6 +61,7 @@ static void call_check(void) { answer = tetherbay_check(book, BLOCK); }
 static void call_checks_right(void) { answer = tetherbay_checks_right(book, sizeof book); }
 static void call_seal(void) { answer = tetherbay_seal(message, BLOCK); }
 static void call_id_well_formed(void) { answer = tetherbay_id_well_formed(id, 16); }
+static void call_eic(void) { answer = tetherbay_eic(party, 16); }
 static void call_eic_valid(void) { answer = tetherbay_eic_valid(party, 16); }
 static void call_quantity_read(void) { answer = tetherbay_quantity_read((const uint8_t *)"9999.999", 8).number; }
 static void call_quantity_print(void) { answer = tetherbay_quantity_print(9999999, text, sizeof text).number; }
@@ -76,7 +77,7 @@ static void call_final(void) { answer = tetherbay_final(book, sizeof book, other
 static void call_plain_run(void) { answer = tetherbay_plain_run(book, sizeof book).number; }
 static void call_listing(void) { answer = tetherbay_listing(small, sizeof small, text, sizeof text); }
 static void call_series(void) { answer = tetherbay_series(message, message_length, MOST_SERIES).length; }
-static void call_open(void) { answer = tetherbay_open(book, sizeof book, N, 45, day(), 8, party, 16, other, 16); }
+static void call_open(void) { answer = tetherbay_open(book, sizeof book, N, 45, day(), 8, party, 16, other, 16).number; }
 
 /* Those that alter the book come last. */
 static struct {
@@ -88,6 +89,7 @@ static struct {
     {"tetherbay_checks_right", call_checks_right, 0},
     {"tetherbay_seal", call_seal, 0},
     {"tetherbay_id_well_formed", call_id_well_formed, 0},
+    {"tetherbay_eic", call_eic, 0},
     {"tetherbay_eic_valid", call_eic_valid, 0},
     {"tetherbay_quantity_read", call_quantity_read, 0},
     {"tetherbay_quantity_print", call_quantity_print, 0},
@@ -153,7 +155,7 @@ static void on_a_book(unsigned senders, bool room, size_t own) {
 static void make_small_book(void) {
     memcpy(party, eic(9000), 16);
     memcpy(other, eic(9001), 16);
-    if (tetherbay_open(small, sizeof small, N, 45, day(), 8, party, 16, other, 16)) exit(5);
+    if (tetherbay_open(small, sizeof small, N, 45, day(), 8, party, 16, other, 16).number) exit(5);
     memcpy(book, small, BLOCK);
     make_message(0, SMALL / BLOCK - 2, 1);
     if (tetherbay_submit(small, sizeof small, message, message_length).number) exit(5);

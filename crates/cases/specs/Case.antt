@@ -6,7 +6,7 @@ use Rattle.paper.specs.declared.Verdict.{Verdict}
 use Rattle.paper.specs.declared.MarkAnswer.{MarkAnswer}
 use Rattle.paper.specs.declared.FinalAnswer.{FinalAnswer}
 use Rattle.paper.specs.Layout.{Bytes}
-use Rattle.paper.specs.Eic.{eicSum, eicValid}
+use Rattle.paper.specs.Eic.{eicSum, eicNumber, eicValid}
 use Rattle.paper.specs.Rules.{verdict}
 use Rattle.paper.specs.Finals.{final}
 use Rattle.paper.specs.Readings.{markAnswer}
@@ -37,6 +37,10 @@ once f (x ∷ xs) = f (x ∷ xs)
 abbrev pub flag : Bool → ℕ
 flag answer = cond answer 1 0
 
+-- which character is wrong
+abbrev pub character : Bytes → List ℕ
+character code = eicNumber code ∷ []
+
 -- is it valid, and the sum s
 abbrev pub eic : String → List ℕ
 eic code = flag (eicValid (text code)) ∷ eicSum (text code) ∷ []
@@ -45,9 +49,9 @@ eic code = flag (eicValid (text code)) ∷ eicSum (text code) ∷ []
 abbrev pub reads : String → List ℕ
 reads s = quantityRead (text s) .number ∷ quantityRead (text s) .kilowatts ∷ []
 
--- number, series, position, code
+-- number, series, position, code, character
 abbrev pub toldBy : Verdict → List ℕ
-toldBy v = v .number ∷ v .series ∷ v .position .0 ∷ v .code ∷ []
+toldBy v = v .number ∷ v .series ∷ v .position .0 ∷ v .code ∷ v .character ∷ []
 
 abbrev pub submission : (book message : Bytes) → List ℕ
 submission book message = once (λ m. toldBy (verdict book m)) message
@@ -74,6 +78,12 @@ yes = 1 ∷ []
 abbrev pub no : List ℕ
 no = 0 ∷ []
 
+abbrev pub good : List ℕ
+good = 0 ∷ []
+
+abbrev pub wrongAt : ℕ → List ℕ
+wrongAt place = place ∷ []
+
 abbrev pub valid : (s : ℕ) → List ℕ
 valid s = 1 ∷ s ∷ []
 
@@ -87,7 +97,11 @@ abbrev pub refused : (number : ℕ) → List ℕ
 refused number = number ∷ 0 ∷ []
 
 abbrev pub acceptance : List ℕ
-acceptance = 0 ∷ 0 ∷ 0 ∷ 1 ∷ []
+acceptance = 0 ∷ 0 ∷ 0 ∷ 1 ∷ 0 ∷ []
 
 abbrev pub broken : (rule series position code : ℕ) → List ℕ
-broken rule series position code = rule ∷ series ∷ position ∷ code ∷ []
+broken rule series position code = rule ∷ series ∷ position ∷ code ∷ 0 ∷ []
+
+-- by a code's character
+abbrev pub brokenBy : (rule series code character : ℕ) → List ℕ
+brokenBy rule series code character = rule ∷ series ∷ 0 ∷ code ∷ character ∷ []

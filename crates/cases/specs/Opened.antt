@@ -9,17 +9,17 @@ use Rattle.paper.specs.Check.{checkStep, checkFrom, checkOf, checkRight, sealed
 use Rattle.paper.specs.Layout.{zeros, kind, nOf, lead, clockPlus10080, dayOfBook, area, receiver, dayZeros, version, idOf, seriesCount, sender, dayOfMessage, nets, net, senderZeros, businessType, contractType, sendersSlot, inArea, outArea, inParty, outParty, pair, agreement, mark, state, first, partner, quantities, entry, quantity, aboveN, senderZerosInMessage, seriesZerosInMessage, withClock, withSendersSlot, withMark, withNets}
 use Rattle.paper.specs.Ranges.{wholeBlocks, nAllowed, leadAllowed, clockAllowed, versionAllowed, countAllowed, quantityAllowed, netAllowed, quantitiesAllowed, netsAllowed}
 use Rattle.paper.specs.Ids.{digit, letter, hyphen, idCharacter, idText, idWellFormed, dayWellFormed}
-use Rattle.paper.specs.Eic.{characterValue, eicCharacter, weighted, eicSum, eicValid}
+use Rattle.paper.specs.Eic.{characterValue, eicCharacter, weighted, eicSum, allowedInFront, sixteenthRight, eicNumber, eicNumberOfTwo, eicValid}
 use Rattle.paper.specs.Book.{dayBlock, slots, isFree, used, freeSlots, isSender, isSeries, numbered, isSenderBlockOf, slotOf, isSeriesOf, ownSender, ownSeries, idIs, pairIs, isSeriesOfPair}
 use Rattle.paper.specs.Sound.{dayFields, daySound, usedFirst, countSound, senderFields, senderDayAndNets, senderSound, partiesOf, ownerSound, partnerSound, seriesFields, seriesCodes, seriesValues, seriesSound, usedSound, sameSender, sameSeries, sound}
 use Rattle.paper.specs.Message.{headOf, seriesOf, headRight, seriesRight, messageRight, rule2, seriesNumbered}
-use Rattle.paper.specs.Rules.{_then_, broken, overPositions, rule1, rule3, rule4, rule5, idOrVersionBroken, rule6, withOtherPair, withOtherId, rule7, rule8, rule9, rule10, rule11, rule12, rule13, isOpen, closed, rule14, seriesVersion, rule15, absent, rule16, isNew, newBlocks, rule17, storedOf, headVerdict, quantityVerdict, closedVerdict, formVerdict, valuesVerdict, seriesVerdict, eachSeries, lastVerdict, judge, verdict}
+use Rattle.paper.specs.Rules.{_then_, broken, brokenBy, overPositions, rule1, rule3, rule4, rule5, idOrVersionBroken, rule6, withOtherPair, withOtherId, rule7, rule8, wrongCharacter, rule9, rule10, rule11, rule12, rule13, isOpen, closed, rule14, seriesVersion, rule15, absent, rule16, isNew, newBlocks, rule17, storedOf, headVerdict, quantityVerdict, closedVerdict, formVerdict, valuesVerdict, seriesVerdict, eachSeries, lastVerdict, judge, verdict}
 use Rattle.paper.specs.Codes.{table, codeIn, reasonCode, statusCode, replyKind, replyTo}
 use Rattle.paper.specs.Marks.{isCounterpart, counterpart, counterpartSlot, differenceFrom, firstDifference, markOf, markIn, stateCode}
 use Rattle.paper.specs.Nets.{bought, sold, netOf, netsTo, netsOf}
 use Rattle.paper.specs.Acceptance.{slotFor, senderKept, replaced, renewed, fresh, placed, touched, remarked, usedAfter, accepted, submitted}
 use Rattle.paper.specs.Finals.{finalOf, held, isHeld, heldAt, finalIn, final}
-use Rattle.paper.specs.Opening.{dayBlockOf, openingAllowed, openNumber, opened}
+use Rattle.paper.specs.Opening.{dayBlockOf, openingAllowed, openNumber, openAnswer, opened}
 use Rattle.paper.specs.Clock.{dayState, advanced, clockAnswer, clockMoved}
 use Rattle.paper.specs.Readings.{isStoredAs, storedAs, markFound, markAnswer, acceptedBlock}
 use Rattle.paper.specs.PlainRun.{markTrue, netsTrue, plainRun}
@@ -38,7 +38,7 @@ blocks = 0
 
 -- "EIC"
 unfoldable pub eic : ℕ
-unfolding characterValue eicCharacter weighted eicSum eicValid
+unfolding characterValue eicCharacter weighted eicSum allowedInFront sixteenthRight eicNumber eicNumberOfTwo eicValid
 eic = 0
 
 -- "Sound book"
@@ -48,7 +48,7 @@ soundBook = 0
 
 -- "Submission: order of checks"
 unfoldable pub orderOfChecks : ℕ
-unfolding headOf seriesOf headRight seriesRight messageRight rule2 seriesNumbered _then_ broken overPositions rule1 rule3 rule4 rule5 idOrVersionBroken rule6 idIs pairIs withOtherPair withOtherId rule7 rule8 rule9 rule10 rule11 rule12 rule13 isOpen closed rule14 seriesVersion rule15 absent rule16 isNew newBlocks rule17 storedOf headVerdict quantityVerdict closedVerdict formVerdict valuesVerdict seriesVerdict eachSeries lastVerdict judge verdict table codeIn reasonCode statusCode replyKind replyTo
+unfolding headOf seriesOf headRight seriesRight messageRight rule2 seriesNumbered _then_ broken brokenBy overPositions rule1 rule3 rule4 rule5 idOrVersionBroken rule6 idIs pairIs withOtherPair withOtherId rule7 rule8 wrongCharacter rule9 rule10 rule11 rule12 rule13 isOpen closed rule14 seriesVersion rule15 absent rule16 isNew newBlocks rule17 storedOf headVerdict quantityVerdict closedVerdict formVerdict valuesVerdict seriesVerdict eachSeries lastVerdict judge verdict table codeIn reasonCode statusCode replyKind replyTo
 orderOfChecks = 0
 
 -- "Marks and finals", and what an acceptance writes
@@ -58,7 +58,7 @@ marksAndFinals = 0
 
 -- "Other calls"
 unfoldable pub otherCalls : ℕ
-unfolding dayBlockOf openingAllowed openNumber opened dayState advanced clockAnswer clockMoved isStoredAs storedAs markFound markAnswer acceptedBlock markTrue netsTrue plainRun leadingDigits decimalFrom worth pastPoint pastWhole unsignedRead pastMinus quantityRead lastDigits widthOf decimal quantityText quantityPrinted printedInto text line seriesLine seriesLines header listing
+unfolding dayBlockOf openingAllowed openNumber openAnswer opened dayState advanced clockAnswer clockMoved isStoredAs storedAs markFound markAnswer acceptedBlock markTrue netsTrue plainRun leadingDigits decimalFrom worth pastPoint pastWhole unsignedRead pastMinus quantityRead lastDigits widthOf decimal quantityText quantityPrinted printedInto text line seriesLine seriesLines header listing
 otherCalls = 0
 
 unfoldable pub paper : ℕ

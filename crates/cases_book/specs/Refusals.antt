@@ -1,9 +1,9 @@
--- Each number of the table of rules, with its series number, position and code; and the order of the rules. Each message differs from a right one in what its line says.
+-- Each number of the table of rules, with its series number, position, code and character; and the order of the rules. Each message differs from a right one in what its line says.
 use Rattle.laws.specs.Base.{_≡_, refl, List, [], _∷_, _++_, take, replicate}
 use Rattle.laws.specs.Bytes.{written}
 use Rattle.paper.specs.Layout.{Bytes, Block}
 use Rattle.paper.specs.Listing.{text}
-use Rattle.cases.specs.Case.{Case, _gives_, wrong, once, submission, broken, acceptance}
+use Rattle.cases.specs.Case.{Case, _gives_, wrong, once, submission, broken, brokenBy, acceptance}
 use Rattle.cases.specs.Opened.{paper}
 use Rattle.cases.specs.Examples.{area, seller, buyer, stranger, nobody, id, head, steady, butAt, series, sale, purchase, buyback, over, withN, withId, withReceiver, withDay, withBusinessType, withContractType, withInArea, withOutArea, withAgreement, bookOf, late, after, examples}
 
@@ -37,7 +37,7 @@ ofShape book =
 unfoldable pub ofFirstBlock : Bytes → List Case
 ofFirstBlock book =
     submission book (withReceiver area firstBlock ++ quiet) gives broken 3 0 0 53
-    ∷ submission book (head nobody 1 1 ++ quiet) gives broken 4 0 0 78
+    ∷ submission book (head nobody 1 1 ++ quiet) gives brokenBy 4 0 78 16
     ∷ submission book (withDay (text "20190201") firstBlock ++ quiet) gives broken 5 0 0 4
     ∷ submission book (withDay (text "2019-1-1") firstBlock ++ quiet) gives broken 5 0 0 4
     ∷ submission book (withN 92 firstBlock ++ withN 92 quiet) gives broken 5 0 0 4
@@ -56,8 +56,8 @@ ofForm book =
     ∷ submission book (firstBlock ++ over 23 (65 ∷ []) quiet) gives broken 7 1 0 55
     ∷ submission book (head buyer 1 2 ++ quiet ++ series "FPL01" 1 seller buyer (steady 0)) gives broken 7 2 0 55
     ∷ submission book (head buyer 1 2 ++ quiet ++ series "FPL02" 1 buyer seller (steady 0)) gives broken 7 2 0 55
-    ∷ submission book (firstBlock ++ series "FPL01" 1 buyer nobody (steady 0)) gives broken 8 1 0 22
-    ∷ submission book (firstBlock ++ series "FPL01" 1 nobody buyer (steady 0)) gives broken 8 1 0 22
+    ∷ submission book (firstBlock ++ series "FPL01" 1 buyer nobody (steady 0)) gives brokenBy 8 1 22 16
+    ∷ submission book (firstBlock ++ series "FPL01" 1 nobody buyer (steady 0)) gives brokenBy 8 1 22 16
     ∷ submission book (firstBlock ++ series "FPL01" 1 buyer buyer (steady 0)) gives broken 8 1 0 22
     ∷ submission book (firstBlock ++ series "FPL01" 1 stranger seller (steady 0)) gives broken 8 1 0 22
     ∷ submission book (firstBlock ++ withInArea stranger quiet) gives broken 9 1 0 23

@@ -5,7 +5,7 @@ use Rattle.laws.specs.Lists.{same}
 use Rattle.laws.specs.Bytes.{part, written}
 use Rattle.paper.specs.Check.{checkOf}
 use Rattle.paper.specs.Layout.{Bytes, version}
-use Rattle.paper.specs.Eic.{eicValid}
+use Rattle.paper.specs.Eic.{eicNumber}
 use Rattle.paper.specs.QuantityText.{quantityRead}
 use Rattle.paper.specs.Opening.{Opening, openNumber, opened}
 use Rattle.paper.specs.Clock.{clockAnswer, clockMoved}
@@ -21,7 +21,6 @@ use Rattle.desk_text.specs.Arguments.{commandNumber, wordValue}
 use Rattle.listing_text.specs.Text.{textLength, textInto}
 use Rattle.message_text.specs.MessageText.{messageText}
 use Rattle.message_text.specs.declared.TextRead.{TextRead}
-use Rattle.cases.specs.Case.{flag}
 use Rattle.cases.specs.Examples.{seller, buyer, id, parameters}
 use Rattle.site_leaves.specs.Leaves.{numberIn, blockWith}
 
@@ -62,7 +61,7 @@ came book command argument more =
     (cond (is command 5) (version (acceptedBlock book seller (id "TS0001")))
     (cond (is command 6) ((final book seller buyer (numberIn argument)) .number)
     (cond (is command 9) ((verdict book (messageOf argument)) .number)
-    (cond (is command 10) (flag (eicValid argument))
+    (cond (is command 10) (eicNumber argument)
     (cond (is command 11) ((quantityRead argument) .number)
     (checkOf (blockWith argument more)))))))))
 

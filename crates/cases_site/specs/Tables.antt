@@ -8,17 +8,22 @@ unfoldable pub rows : List Bytes → Bytes
 rows [] = []
 rows (w ∷ ws) = w ++ 59 ∷ rows ws
 
--- codes of parties
+-- codes of parties and areas: which character is wrong
 unfoldable pub eics : Bytes
 eics =
     rows
-    (text "eic|10XAT-APG------Z||1|EIC 10XAT-APG------Z"
-    ∷ text "eic|10XAT-APG------Y||0|EIC 10XAT-APG------Y"
-    ∷ text "eic|10YAT-APG------L||1|EIC 10YAT-APG------L"
-    ∷ text "eic|14XAT-APCS-----Q||1|EIC 14XAT-APCS-----Q"
-    ∷ text "eic|14XBG-EMPFANG--0||1|EIC 14XBG-EMPFANG--0"
-    ∷ text "eic|14XBILANZGR-1--F||1|EIC 14XBILANZGR-1--F"
-    ∷ text "eic|13XBILANZGR-2--Q||1|EIC 13XBILANZGR-2--Q"
+    (text "eic|10XAT-APG------Z||0|wrong character of EIC 10XAT-APG------Z"
+    ∷ text "eic|10XAT-APG------Y||16|wrong character of EIC 10XAT-APG------Y"
+    ∷ text "eic|10YAT-APG------L||0|wrong character of EIC 10YAT-APG------L"
+    ∷ text "eic|14XAT-APCS-----Q||0|wrong character of EIC 14XAT-APCS-----Q"
+    ∷ text "eic|14XBG-EMPFANG--0||0|wrong character of EIC 14XBG-EMPFANG--0"
+    ∷ text "eic|14XBILANZGR-1--F||0|wrong character of EIC 14XBILANZGR-1--F"
+    ∷ text "eic|13XBILANZGR-2--Q||0|wrong character of EIC 13XBILANZGR-2--Q"
+    ∷ text "eic|10XAT-aPG------Z||7|wrong character of EIC 10XAT-aPG------Z"
+    ∷ text "eic|10XAT-APG-----.Z||15|wrong character of EIC 10XAT-APG-----.Z"
+    ∷ text "eic|10XAT-||7|wrong character of EIC 10XAT-"
+    ∷ text "eic|10XAT-APG------ZZ||16|wrong character of EIC 10XAT-APG------ZZ"
+    ∷ text "eic|000000000000000A||16|wrong character of EIC 000000000000000A"
     ∷ [])
 
 -- texts that are no quantity

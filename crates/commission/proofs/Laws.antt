@@ -1,15 +1,8 @@
 -- Laws of the check on site: rows that are passed.
-use Rattle.laws.specs.Base.{_≡_, refl, ap, Bool, true, false, List, ℕ, zero, suc, _+_, _-_, _≤_, _<_, add-one, sub-zero, arith, length}
-use mir.Val.{boolByte}
+use Rattle.laws.specs.Base.{_≡_, refl, ap, Bool, List, ℕ, zero, suc, _+_, _-_, _≤_, _<_, add-one, sub-zero, arith, length}
 use Rattle.laws.specs.Kit.{_and_, is, is-equal, is-other}
 use Rattle.desk_text.specs.Words.{pastPiece, pastPieces, pieceNumbered}
-use Rattle.cases.specs.Case.{flag}
 use Rattle.cases_site.specs.Site.{rowRight, rowBook, rowsFrom}
-
--- yes is 1 in the code too
-pub as-number : (answer : Bool) → boolByte answer ≡ flag answer
-as-number true = refl
-as-number false = refl
 
 -- ---- pieces
 

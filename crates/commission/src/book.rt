@@ -32,7 +32,7 @@ pub fn opened(book: &mut [u8], lead: &[u8]) -> u32
         b"20190131",
         b"10YAT-APG------L",
         b"14XAT-APCS-----Q",
-    )
+    ).number
 }
 
 pub fn clock(book: &mut [u8], minute: &[u8]) -> u32

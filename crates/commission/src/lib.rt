@@ -16,13 +16,18 @@ fn leaves_right(book: &mut [u8]) -> bool
 {
     let a = table::cases(
         book,
-        b"eic|10XAT-APG------Z||1|EIC 10XAT-APG------Z;\
-        eic|10XAT-APG------Y||0|EIC 10XAT-APG------Y;\
-        eic|10YAT-APG------L||1|EIC 10YAT-APG------L;\
-        eic|14XAT-APCS-----Q||1|EIC 14XAT-APCS-----Q;\
-        eic|14XBG-EMPFANG--0||1|EIC 14XBG-EMPFANG--0;\
-        eic|14XBILANZGR-1--F||1|EIC 14XBILANZGR-1--F;\
-        eic|13XBILANZGR-2--Q||1|EIC 13XBILANZGR-2--Q;",
+        b"eic|10XAT-APG------Z||0|wrong character of EIC 10XAT-APG------Z;\
+        eic|10XAT-APG------Y||16|wrong character of EIC 10XAT-APG------Y;\
+        eic|10YAT-APG------L||0|wrong character of EIC 10YAT-APG------L;\
+        eic|14XAT-APCS-----Q||0|wrong character of EIC 14XAT-APCS-----Q;\
+        eic|14XBG-EMPFANG--0||0|wrong character of EIC 14XBG-EMPFANG--0;\
+        eic|14XBILANZGR-1--F||0|wrong character of EIC 14XBILANZGR-1--F;\
+        eic|13XBILANZGR-2--Q||0|wrong character of EIC 13XBILANZGR-2--Q;\
+        eic|10XAT-aPG------Z||7|wrong character of EIC 10XAT-aPG------Z;\
+        eic|10XAT-APG-----.Z||15|wrong character of EIC 10XAT-APG-----.Z;\
+        eic|10XAT-||7|wrong character of EIC 10XAT-;\
+        eic|10XAT-APG------ZZ||16|wrong character of EIC 10XAT-APG------ZZ;\
+        eic|000000000000000A||16|wrong character of EIC 000000000000000A;",
     );
     let b = leaves::quantities();
     let c = table::cases(

@@ -20,7 +20,7 @@ fn came(book: &mut [u8], command: usize, argument: &[u8], more: &[u8]) -> u32
         5 => book::kept_version(book),
         6 => book::final_number(book, argument),
         9 => book::submitted(book, argument),
-        10 => eic::eic_valid(argument) as u32,
+        10 => eic::eic_number(argument) as u32,
         11 => quantity::quantity_read(argument).number,
         _ => leaves::check(argument, more),
     }

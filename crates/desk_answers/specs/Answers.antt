@@ -1,13 +1,15 @@
 -- What each command answers, and what it leaves of the book. A command's words are counted from its own name, 0; word 1 is the command.
 use mathlib.Core.Path.{_≡_}
+use mathlib.Core.List.{[]}
 use Prim.Native.Nat.{ℕ}
-use lib.ListN.{length}
-use Rattle.paper.specs.Layout.{Bytes}
-use Rattle.paper.specs.Eic.{eicValid}
+use lib.ListN.{length, getD}
+use Rattle.paper.specs.declared.Verdict.{Verdict}
+use Rattle.paper.specs.Layout.{Bytes, blocks}
+use Rattle.paper.specs.Eic.{eicNumber}
 use Rattle.paper.specs.QuantityText.{quantityRead}
 use Rattle.paper.specs.Rules.{verdict}
 use Rattle.paper.specs.Acceptance.{submitted}
-use Rattle.paper.specs.Opening.{Opening, openNumber, opened}
+use Rattle.paper.specs.Opening.{Opening, openAnswer, opened}
 use Rattle.paper.specs.Clock.{clockAnswer, clockMoved}
 use Rattle.paper.specs.Readings.{markAnswer, acceptedBlock}
 use Rattle.paper.specs.Finals.{final}
@@ -17,7 +19,7 @@ use Rattle.listing_text.specs.Text.{textLength, textInto}
 use Rattle.desk_text.specs.Put.{Put}
 use Rattle.desk_text.specs.Words.{wordNumbered}
 use Rattle.desk_text.specs.Arguments.{idField, byteValue, wordValue}
-use Rattle.desk_lines.specs.Lines.{verdictLine, numberLine, clockLine, markLine, blockLine, finalLine, plainLine, eicLine, quantityLine}
+use Rattle.desk_lines.specs.Lines.{verdictLine, openLine, clockLine, markLine, blockLine, finalLine, plainLine, eicLine, quantityLine}
 use Rattle.desk_answers.specs.declared.Told.{Told}
 use Rattle.desk_answers.specs.declared.Numbers.{Numbers}
 use Rattle.desk_answers.specs.declared.Change.{Change}
@@ -43,15 +45,19 @@ opening numbers words =
       receiver = wordNumbered 8 words;
     }
 
+-- the block of a message at which a rule is broken: block 0 is the sender's, block k series k
+unfoldable pub blockNamed : (message : Bytes) (v : Verdict) → Bytes
+blockNamed message v = getD (blocks message) (v .series) []
+
 unfoldable pub changeNumber : (what : Change) (book given : Bytes) → ℕ
-changeNumber (Open numbers) book words = openNumber book (opening numbers words)
+changeNumber (Open numbers) book words = (openAnswer book (opening numbers words)) .number
 changeNumber (Clock minute) book given = (clockAnswer book (minute .0)) .number
 changeNumber Submit book message = (verdict book message) .number
 
 unfoldable pub changeLine : (what : Change) (book given : Bytes) → Bytes
-changeLine (Open numbers) book words = numberLine (openNumber book (opening numbers words))
+changeLine (Open numbers) book words = openLine (openAnswer book (opening numbers words)) (wordNumbered 7 words) (wordNumbered 8 words)
 changeLine (Clock minute) book given = clockLine (clockAnswer book (minute .0))
-changeLine Submit book message = verdictLine (verdict book message)
+changeLine Submit book message = verdictLine (verdict book message) (blockNamed message (verdict book message))
 
 unfoldable pub changed : (what : Change) (book given : Bytes) → Bytes
 changed (Open numbers) book words = opened book (opening numbers words)
@@ -67,7 +73,7 @@ lineOf Block book words =
 lineOf (Final position) book words = finalLine (final book (wordNumbered 3 words) (wordNumbered 4 words) position)
 lineOf Plain book words = plainLine (plainRun book)
 lineOf List book words = listing book
-lineOf Eic book words = eicLine (eicValid (wordNumbered 2 words))
+lineOf Eic book words = eicLine (wordNumbered 2 words) (eicNumber (wordNumbered 2 words))
 lineOf Kw book words = quantityLine (quantityRead (wordNumbered 2 words))
 
 -- the buffer was x and is y, r bytes of which are the answer; a listing that has no room leaves it as it was

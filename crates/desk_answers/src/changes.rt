@@ -2,34 +2,42 @@
 ghost use mathlib.Core.Path.{_≡_};
 ghost use Rattle.paper.specs.Rules.{verdict};
 ghost use Rattle.paper.specs.Acceptance.{submitted};
-ghost use Rattle.paper.specs.Opening.{openNumber, opened};
+ghost use Rattle.paper.specs.Opening.{openAnswer, opened};
 ghost use Rattle.paper.specs.Clock.{clockAnswer, clockMoved};
-ghost use Rattle.desk_lines.specs.Lines.{verdictLine, numberLine, clockLine};
-ghost use Rattle.desk_answers.specs.Answers.{Tells, opening, changeNumber, changeLine, changed};
+ghost use Rattle.desk_lines.specs.Lines.{verdictLine, openLine, clockLine};
+ghost use Rattle.desk_text.specs.Words.{wordNumbered};
+ghost use Rattle.desk_answers.specs.Answers.{Tells, opening, blockNamed, changeNumber, changeLine, changed};
 use crate::Change;
 use crate::Numbers;
 use crate::Told;
 use desk_lines::clock_line;
-use desk_lines::number_line;
+use desk_lines::open_line;
 use desk_lines::verdict_line;
 use desk_text::arguments::byte_value;
 use desk_text::arguments::word_value;
 use desk_text::words::word;
 use paper::Minute;
+use slots::block_at;
 
+// The line tells of the area's code first, then of the receiver's.
 fn open_told(book: &mut [u8], numbers: Numbers, words: &[u8], line: &mut [u8]) -> Told
-    ensures { λ r. ⌜ Tells (openNumber (now (book .entry)) (opening numbers (now (words .entry)))) (numberLine (openNumber (now (book .entry)) (opening numbers (now (words .entry))))) r (now (line .entry)) (now (line .exit)) × (now (book .exit) ≡ opened (now (book .entry)) (opening numbers (now (words .entry)))) ⌝ }
+    ensures { λ r. ⌜ Tells ((openAnswer (now (book .entry)) (opening numbers (now (words .entry)))) .number) (openLine (openAnswer (now (book .entry)) (opening numbers (now (words .entry)))) (wordNumbered 7 (now (words .entry))) (wordNumbered 8 (now (words .entry)))) r (now (line .entry)) (now (line .exit)) × (now (book .exit) ≡ opened (now (book .entry)) (opening numbers (now (words .entry)))) ⌝ }
 {
-    let number = opening::open(
+    let area = word(words, 7);
+    let receiver = word(words, 8);
+    let opened = opening::open(
         book,
         byte_value(numbers.n),
         word_value(numbers.lead),
         word(words, 6),
-        word(words, 7),
-        word(words, 8),
+        area,
+        receiver,
     );
-    let length = number_line(line, number);
-    Told { number, length }
+    let length = open_line(line, opened, area, receiver);
+    Told {
+        number: opened.number,
+        length,
+    }
 }
 
 fn clock_told(book: &mut [u8], minute: Minute, line: &mut [u8]) -> Told
@@ -43,11 +51,12 @@ fn clock_told(book: &mut [u8], minute: Minute, line: &mut [u8]) -> Told
     }
 }
 
+// Block 0 of a message is the sender's, block k series k.
 fn submit_told(book: &mut [u8], message: &[u8], line: &mut [u8]) -> Told
-    ensures { λ r. ⌜ Tells ((verdict (now (book .entry)) (now (message .entry))) .number) (verdictLine (verdict (now (book .entry)) (now (message .entry)))) r (now (line .entry)) (now (line .exit)) × (now (book .exit) ≡ submitted (now (book .entry)) (now (message .entry))) ⌝ }
+    ensures { λ r. ⌜ Tells ((verdict (now (book .entry)) (now (message .entry))) .number) (verdictLine (verdict (now (book .entry)) (now (message .entry))) (blockNamed (now (message .entry)) (verdict (now (book .entry)) (now (message .entry))))) r (now (line .entry)) (now (line .exit)) × (now (book .exit) ≡ submitted (now (book .entry)) (now (message .entry))) ⌝ }
 {
     let verdict = submit::submit(book, message);
-    let length = verdict_line(line, verdict);
+    let length = verdict_line(line, verdict, block_at(message, verdict.series));
     Told {
         number: verdict.number,
         length,

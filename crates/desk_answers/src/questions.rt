@@ -1,5 +1,5 @@
 // The calls that read a book, and those that need none.
-ghost use Rattle.paper.specs.Eic.{eicValid};
+ghost use Rattle.paper.specs.Eic.{eicNumber};
 ghost use Rattle.paper.specs.QuantityText.{quantityRead};
 ghost use Rattle.paper.specs.Readings.{markAnswer, acceptedBlock};
 ghost use Rattle.paper.specs.Finals.{final};
@@ -47,10 +47,10 @@ fn plain_told(book: &[u8], line: &mut [u8]) -> usize
 }
 
 fn eic_told(words: &[u8], line: &mut [u8]) -> usize
-    ensures { λ r. ⌜ Put 0 (eicLine (eicValid (wordNumbered 2 (now (words .entry))))) r (now (line .entry)) (now (line .exit)) ⌝ }
+    ensures { λ r. ⌜ Put 0 (eicLine (wordNumbered 2 (now (words .entry))) (eicNumber (wordNumbered 2 (now (words .entry))))) r (now (line .entry)) (now (line .exit)) ⌝ }
 {
-    let valid = eic::eic_valid(word(words, 2));
-    desk_lines::eic_line(line, valid)
+    let code = word(words, 2);
+    desk_lines::eic_line(line, code, eic::eic_number(code))
 }
 
 fn kw_told(words: &[u8], line: &mut [u8]) -> usize

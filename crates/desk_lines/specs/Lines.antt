@@ -5,6 +5,7 @@ use Prim.Native.Nat.{ℕ, zero, suc}
 use Rattle.laws.specs.Tests.{is, less}
 use Rattle.paper.specs.declared.DayState.{DayState}
 use Rattle.paper.specs.declared.Verdict.{Verdict}
+use Rattle.paper.specs.declared.OpenAnswer.{OpenAnswer}
 use Rattle.paper.specs.declared.ClockAnswer.{ClockAnswer}
 use Rattle.paper.specs.declared.MarkAnswer.{MarkAnswer}
 use Rattle.paper.specs.declared.FinalAnswer.{FinalAnswer}
@@ -20,6 +21,7 @@ use Rattle.desk_text.specs.Numbers.{minuteText}
 use Rattle.desk_text.specs.Pieces.{worded, named, codeText}
 use Rattle.desk_text.specs.Replies.{replyText}
 use Rattle.desk_text.specs.Words.{meaning, stateMeaning}
+use Rattle.desk_lines.specs.Faults.{fault, openingFault, verdictFault}
 
 -- ---- the parts of a line
 
@@ -46,11 +48,13 @@ megawatts kilowatts = cond (less 9999999 kilowatts) [] (quantityText kilowatts)
 
 -- ---- the lines
 
-unfoldable pub verdictLine : (v : Verdict) → Bytes
-verdictLine v = answerText (v .number) (v .code) (v .series) (v .position .0) ++ replyText (replyTo (v .number)) ++ text "\n"
+-- x is the block of the message at which the rule is broken
+unfoldable pub verdictLine : (v : Verdict) (x : Block) → Bytes
+verdictLine v x =
+    answerText (v .number) (v .code) (v .series) (v .position .0) ++ verdictFault v x ++ replyText (replyTo (v .number)) ++ text "\n"
 
-unfoldable pub numberLine : (number : ℕ) → Bytes
-numberLine number = answerOf number ++ text "\n"
+unfoldable pub openLine : (a : OpenAnswer) (area receiver : Bytes) → Bytes
+openLine a area receiver = answerOf (a .number) ++ openingFault area receiver (a .character) ++ text "\n"
 
 -- an answer, then what it tells if the call is accepted
 unfoldable pub telling : (number : ℕ) (told : Bytes) → Bytes
@@ -85,8 +89,9 @@ plainLine a = telling (a .number) (plainText (a .holds))
 unfoldable pub quantityLine : (r : QuantityRead) → Bytes
 quantityLine r = telling (r .number) (worded (text ": ") (r .kilowatts) ++ text " kW, printed " ++ megawatts (r .kilowatts) ++ text "\n")
 
-unfoldable pub eicLine : (valid : Bool) → Bytes
-eicLine valid = cond valid (text "yes, a valid EIC\n") (text "no, not a valid EIC\n")
+-- character is the check's number of the code
+unfoldable pub eicLine : (code : Bytes) (character : ℕ) → Bytes
+eicLine code character = cond (is character 0) (text "yes, a valid EIC\n") (text "no, " ++ fault (text "the code") code character ++ text "\n")
 
 -- the first k quantities, a space before each
 unfoldable pub quantitiesText : (q : Bytes) (k : ℕ) → Bytes

@@ -6,7 +6,10 @@ ghost use Rattle.paper.specs.Layout.{state, first, partner, entry};
 ghost use Rattle.paper.specs.Listing.{text};
 ghost use Rattle.desk_text.specs.Put.{Put};
 ghost use Rattle.desk_lines.specs.Lines.{status, reason, answerText, answerOf, megawatts, stateText, markText, dayText, nameText, seriesText, quantitiesText};
-ghost use Rattle.desk_lines.specs.Lines.{verdictLine, numberLine, clockLine, markLine, finalLine, plainLine, quantityLine, eicLine, blockLine};
+ghost use Rattle.desk_lines.specs.Lines.{verdictLine, openLine, clockLine, markLine, finalLine, plainLine, quantityLine, eicLine, blockLine};
+
+mod faults;
+
 use desk_text::numbers::put_minute;
 use desk_text::pieces::put_code;
 use desk_text::pieces::put_named;
@@ -15,11 +18,15 @@ use desk_text::put::put;
 use desk_text::replies::put_reply;
 use desk_text::words::put_meaning;
 use desk_text::words::put_state_meaning;
+use faults::put_fault;
+use faults::put_opening_fault;
+use faults::put_verdict_fault;
 use field::id_text;
 use paper::ClockAnswer;
 use paper::DayState;
 use paper::FinalAnswer;
 use paper::MarkAnswer;
+use paper::OpenAnswer;
 use paper::PlainRunAnswer;
 use paper::QuantityRead;
 use paper::Verdict;
@@ -77,9 +84,10 @@ fn put_answer_of(line: &mut [u8], number: u32) -> usize
     put_answer(line, number, codes::reason_code(number), 0, 0)
 }
 
-// Where a rule is broken is told with it, and how the sender is answered.
-pub fn verdict_line(line: &mut [u8], verdict: Verdict) -> usize
-    ensures { λ r. ⌜ Put 0 (verdictLine verdict) r (now (line .entry)) (now (line .exit)) ⌝ }
+// Where a rule is broken is told with it, on 4 and 8 what is wrong with the code, and how the sender is answered. The block is the one of the message at which the
+// rule is broken.
+pub fn verdict_line(line: &mut [u8], verdict: Verdict, x: &[u8]) -> usize
+    ensures { λ r. ⌜ Put 0 (verdictLine verdict (now (x .entry))) r (now (line .entry)) (now (line .exit)) ⌝ }
 {
     let a = put_answer(
         line,
@@ -88,15 +96,18 @@ pub fn verdict_line(line: &mut [u8], verdict: Verdict) -> usize
         verdict.series,
         verdict.position.0,
     );
-    let b = put_reply(line, a, codes::reply(verdict.number));
-    put_end(line, b)
+    let b = put_verdict_fault(line, a, verdict, x);
+    let c = put_reply(line, b, codes::reply(verdict.number));
+    put_end(line, c)
 }
 
-pub fn number_line(line: &mut [u8], number: u32) -> usize
-    ensures { λ r. ⌜ Put 0 (numberLine number) r (now (line .entry)) (now (line .exit)) ⌝ }
+// On 21 with what is wrong with the code of the area or the receiver.
+pub fn open_line(line: &mut [u8], answer: OpenAnswer, area: &[u8], receiver: &[u8]) -> usize
+    ensures { λ r. ⌜ Put 0 (openLine answer (now (area .entry)) (now (receiver .entry))) r (now (line .entry)) (now (line .exit)) ⌝ }
 {
-    let a = put_answer_of(line, number);
-    put_end(line, a)
+    let a = put_answer_of(line, answer.number);
+    let b = put_opening_fault(line, a, area, receiver, answer.character);
+    put_end(line, b)
 }
 
 fn put_day(line: &mut [u8], at: usize, day: DayState) -> usize
@@ -194,13 +205,16 @@ pub fn quantity_line(line: &mut [u8], answer: QuantityRead) -> usize
     put_end(line, d)
 }
 
-pub fn eic_line(line: &mut [u8], valid: bool) -> usize
-    ensures { λ r. ⌜ Put 0 (eicLine valid) r (now (line .entry)) (now (line .exit)) ⌝ }
+// The character is the check's number of the code.
+pub fn eic_line(line: &mut [u8], code: &[u8], character: u8) -> usize
+    ensures { λ r. ⌜ Put 0 (eicLine (now (code .entry)) character) r (now (line .entry)) (now (line .exit)) ⌝ }
 {
-    if valid {
+    if character == 0 {
         return put(line, 0, b"yes, a valid EIC\n");
     }
-    put(line, 0, b"no, not a valid EIC\n")
+    let a = put(line, 0, b"no, ");
+    let b = put_fault(line, a, b"the code", code, character);
+    put_end(line, b)
 }
 
 // ---- an accepted block

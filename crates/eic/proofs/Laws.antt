@@ -6,6 +6,7 @@ use Rattle.laws.specs.Tests.Laws.{neg-yes}
 use Rattle.laws.specs.Lists.{every}
 use Rattle.laws.specs.Lists.Each.{every-more, getD-map, map-append}
 use Rattle.paper.specs.Ids.{digit, letter, hyphen}
+use Rattle.facts.specs.Eic.{eic-valid-says}
 use Rattle.paper.specs.Eic.{characterValue, eicCharacter, weighted, eicSum, eicValid}
 use Rattle.eic.specs.Values.{known, weightedValues}
 
@@ -105,8 +106,9 @@ module _ (code : List ℕ) (n : length code ≡ 16) where
   last-known e = and-right _ _ (sym (every-more eicCharacter code 15 0 (omega arith)) ∙ ap (every eicCharacter) sixteen ∙ e)
 
   pub valid-by-sum : eicValid code ≡ (every known values and neg (is (weightedValues 16 values) 0) and neg (hyphen (getD code 15 0)) and is (weightedValues 16 values % 37) 0)
-  unfolding eicValid _and_
+  unfolding _and_
   valid-by-sum =
-      split (every eicCharacter code)
+      eic-valid-says code
+      ∙ split (every eicCharacter code)
       (λ e. rw (is-equal _ _ n, sym (known-values code), e, whole-sum) (by-sum (eicSum code) _ (neg (hyphen (getD code 15 0))) (value-most _ (last-known e))))
       (λ e. rw (is-equal _ _ n, sym (known-values code), e))

@@ -4,11 +4,12 @@ ghost use mathlib.Core.List.{map};
 ghost use Prim.Native.Nat.{_*_, _≤_};
 ghost use lib.ListN.{length};
 ghost use Rattle.laws.specs.Lists.{every};
-ghost use Rattle.paper.specs.Eic.{characterValue, eicValid};
+ghost use Rattle.paper.specs.Eic.{characterValue, allowedInFront, eicNumber, eicNumberOfTwo, eicValid};
 ghost use Rattle.eic.specs.Values.{known, weightedValues};
 use field::digit;
 use field::hyphen;
 use field::letter;
+use field::part_of;
 
 // 255 is the mark of a byte that is no character of an EIC. With no return in between the compiler works all sixteen of a code out at once.
 fn character_value(x: u8) -> u8
@@ -87,4 +88,41 @@ pub fn eic_valid(s: &[u8]) -> bool
     let values = values_of(s);
     let sum = sum_of(&values);
     all_known(&values) & (sum != 0) & !hyphen(s[15]) & (sum % 37 == 0)
+}
+
+// Up to the first of the first fifteen that has no value, or to the end.
+fn allowed_in_front(s: &[u8]) -> usize
+    ensures { λ r. ⌜ r ≡ allowedInFront (now (s .entry)) ⌝ }
+{
+    let front = part_of(s, 0, 15);
+    let mut i = 0;
+    while i < front.len() {
+        if character_value(front[i]) == 255 {
+            return i;
+        }
+        i += 1;
+    }
+    i
+}
+
+// Of a good code no more is asked than whether it is valid.
+pub fn eic_number(s: &[u8]) -> u8
+    ensures { λ r. ⌜ r ≡ eicNumber (now (s .entry)) ⌝ }
+{
+    if eic_valid(s) {
+        return 0;
+    }
+    let k = allowed_in_front(s);
+    if k < 15 { (k + 1) as u8 } else { 16 }
+}
+
+// The second is judged where the first is good.
+pub fn number_of_two(first: &[u8], second: &[u8]) -> u8
+    ensures { λ r. ⌜ r ≡ eicNumberOfTwo (now (first .entry)) (now (second .entry)) ⌝ }
+{
+    let n = eic_number(first);
+    if n != 0 {
+        return n;
+    }
+    eic_number(second)
 }

@@ -5,6 +5,7 @@ use Rattle.export.proofs.tetherbay_check.Reads as check
 use Rattle.export.proofs.tetherbay_checks_right.Reads as checks-right
 use Rattle.export.proofs.tetherbay_seal.Reads as seal
 use Rattle.export.proofs.tetherbay_id_well_formed.Reads as id-well-formed
+use Rattle.export.proofs.tetherbay_eic.Reads as eic
 use Rattle.export.proofs.tetherbay_eic_valid.Reads as eic-valid
 use Rattle.export.proofs.tetherbay_quantity_read.Reads as quantity-read
 use Rattle.export.proofs.tetherbay_quantity_print.Reads as quantity-print
@@ -60,6 +61,9 @@ checks-right-determined k a answer other s t p q = p ∙ sym q
 
 pub id-well-formed-determined : OneAnswer id-well-formed.Post
 id-well-formed-determined k a answer other s t p q = p ∙ sym q
+
+pub eic-determined : OneAnswer eic.Post
+eic-determined k a answer other s t p q = p ∙ sym q
 
 pub eic-valid-determined : OneAnswer eic-valid.Post
 eic-valid-determined k a answer other s t p q = p ∙ sym q

@@ -2,7 +2,7 @@
 ghost use mathlib.Core.Path.{_≡_};
 ghost use lib.ListN.{length};
 ghost use Rattle.paper.specs.Sound.{sound};
-ghost use Rattle.paper.specs.Opening.{openNumber, opened};
+ghost use Rattle.paper.specs.Opening.{openAnswer, opened};
 ghost use Rattle.paper.specs.Clock.{clockAnswer, clockMoved};
 ghost use Rattle.paper.specs.Readings.{markAnswer};
 ghost use Rattle.paper.specs.Finals.{final};
@@ -16,6 +16,7 @@ use paper::ClockAnswer;
 use paper::FinalAnswer;
 use paper::MarkAnswer;
 use paper::Minute;
+use paper::OpenAnswer;
 use paper::PlainRunAnswer;
 use paper::Position;
 use paper::Verdict;
@@ -35,9 +36,9 @@ pub extern "C" fn tetherbay_open(
     day: &[u8],
     area: &[u8],
     receiver: &[u8],
-) -> u32
-    ensures { λ r. ⌜ (r ≡ openNumber (now (book .entry)) (record { n = n; lead = lead; day = now (day .entry); area = now (area .entry); receiver = now (receiver .entry) })) × (now (book .exit) ≡ opened (now (book .entry)) (record { n = n; lead = lead; day = now (day .entry); area = now (area .entry); receiver = now (receiver .entry) })) ⌝ }
-    ensures { λ r. ⌜ OpeningKeeps (now (book .entry)) r (now (book .exit)) ⌝ }
+) -> OpenAnswer
+    ensures { λ r. ⌜ (r ≡ openAnswer (now (book .entry)) (record { n = n; lead = lead; day = now (day .entry); area = now (area .entry); receiver = now (receiver .entry) })) × (now (book .exit) ≡ opened (now (book .entry)) (record { n = n; lead = lead; day = now (day .entry); area = now (area .entry); receiver = now (receiver .entry) })) ⌝ }
+    ensures { λ r. ⌜ OpeningKeeps (now (book .entry)) (r .number) (now (book .exit)) ⌝ }
 {
     opening::open(book, n, lead, day, area, receiver)
 }

@@ -5,7 +5,7 @@ ghost use Rattle.laws.specs.Lists.{every};
 ghost use Rattle.laws.specs.Cut.{cut};
 ghost use Rattle.paper.specs.Check.{checkOf, checkRight};
 ghost use Rattle.paper.specs.Ids.{idWellFormed};
-ghost use Rattle.paper.specs.Eic.{eicValid};
+ghost use Rattle.paper.specs.Eic.{eicNumber, eicValid};
 ghost use Rattle.paper.specs.QuantityText.{quantityRead, quantityPrinted, printedInto};
 ghost use Rattle.paper.specs.Codes.{reasonCode, replyTo};
 ghost use Rattle.export.specs.Seal.{isOneBlock, sealedBlock};
@@ -48,6 +48,14 @@ pub extern "C" fn tetherbay_id_well_formed(id: &[u8]) -> bool
     ensures { λ r. ⌜ r ≡ idWellFormed (now (id .entry)) ⌝ }
 {
     field::id_well_formed(id)
+}
+
+// Which character of a code is wrong.
+#[no_mangle]
+pub extern "C" fn tetherbay_eic(code: &[u8]) -> u8
+    ensures { λ r. ⌜ r ≡ eicNumber (now (code .entry)) ⌝ }
+{
+    eic::eic_number(code)
 }
 
 #[no_mangle]

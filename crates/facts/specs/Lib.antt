@@ -11,6 +11,8 @@ pub mod Nets
 pub mod Sound
 pub mod Verdict
 pub mod Calls
+-- which character a refusal names
+pub mod Characters
 -- what an acceptance does to each block
 pub mod Pairs
 pub mod Renewal

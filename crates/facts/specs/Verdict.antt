@@ -12,11 +12,11 @@ use Rattle.paper.specs.declared.Verdict.{Verdict}
 use Rattle.paper.specs.Layout.{Bytes, Block, zeros, nOf, dayOfBook, area, receiver, version, idOf, seriesCount, sender, dayOfMessage, businessType, contractType, sendersSlot, inArea, outArea, inParty, outParty, pair, agreement, quantity, senderZerosInMessage, seriesZerosInMessage}
 use Rattle.paper.specs.Ranges.{wholeBlocks, versionAllowed}
 use Rattle.paper.specs.Ids.{idWellFormed}
-use Rattle.paper.specs.Eic.{eicValid}
+use Rattle.paper.specs.Eic.{eicNumber, eicValid}
 use Rattle.paper.specs.Book.{dayBlock, used, freeSlots, isSender, isSeries, idIs, pairIs, isSeriesOf, ownSender, ownSeries}
 use Rattle.paper.specs.Sound.{partiesOf, sound}
 use Rattle.paper.specs.Message.{headOf, seriesOf, headRight, seriesRight, messageRight, rule2}
-use Rattle.paper.specs.Rules.{fine, numberOf, _then_, broken, overPositions, rule1, rule3, rule4, rule5, idOrVersionBroken, rule6, withOtherPair, withOtherId, rule7, rule8, rule9, rule10, rule12, rule13, storedOf, closed, rule14, seriesVersion, rule15, absent, rule16, newBlocks, rule17, headVerdict, formVerdict, quantityVerdict, closedVerdict, valuesVerdict, seriesVerdict, eachSeries, lastVerdict, judge, verdict}
+use Rattle.paper.specs.Rules.{fine, numberOf, _then_, broken, brokenBy, overPositions, rule1, rule3, rule4, rule5, idOrVersionBroken, rule6, withOtherPair, withOtherId, rule7, rule8, wrongCharacter, rule9, rule10, rule12, rule13, storedOf, closed, rule14, seriesVersion, rule15, absent, rule16, newBlocks, rule17, headVerdict, formVerdict, quantityVerdict, closedVerdict, valuesVerdict, seriesVerdict, eachSeries, lastVerdict, judge, verdict}
 use Rattle.facts.specs.Layout.{value-zeros}
 use Rattle.facts.specs.Book.{series-of-yes}
 use Rattle.facts.specs.Sound.{Sound, sound-says}
@@ -38,6 +38,11 @@ passed : (test : Bool) (number series position : ℕ) → Passed (broken test (s
 unfolding broken
 passed true number series position e = absurd (let z : suc number ≡ 0 = e in omega arith)
 passed false number series position e = refl
+
+passed-by : (test : Bool) (number series character : ℕ) → Passed (brokenBy test (suc number) series character) → test ≡ false
+unfolding brokenBy
+passed-by true number series character e = absurd (let z : suc number ≡ 0 = e in omega arith)
+passed-by false number series character e = refl
 
 each-position : (at : ℕ → Verdict) → Passed (overPositions at) → (k : ℕ) → k < 100 → Passed (at k)
 unfolding overPositions
@@ -159,7 +164,7 @@ module _ (d : Block) (own : List Block) (h : Block) where
     line =
         let f2 = then-right _ _ form in
         let f3 = then-right _ _ f2 in
-        let r8 = passed _ 7 s 0 (then-left _ _ f2) in
+        let r8 = passed-by _ 7 s (wrongCharacter y) (then-left _ _ f2) in
         let r9 = passed _ 8 s 0 (then-left _ _ f3) in
         let r10 = passed _ 9 s 0 (then-right _ _ f3) in
         let v2 = then-right _ _ values in
@@ -256,7 +261,7 @@ accepts book message e =
       was = sound-says book (verdict-sound book message e);
       right = message-says message (verdict-message book message e);
       receiver-is = neg-no _ (passed _ 2 0 0 (then-left _ _ j3));
-      sender-valid = neg-no _ (passed _ 3 0 0 (then-left _ _ j4));
+      sender-valid = neg-no _ (passed-by _ 3 0 (eicNumber (sender (headOf message))) (then-left _ _ j4));
       day-is = neg-no _ (or-left _ _ r5);
       n-is = is-yes _ _ (neg-no _ (or-right _ _ r5));
       id-formed = neg-no _ (or-left _ _ r6);

@@ -7,14 +7,14 @@ use Rattle.paper.specs.declared.Verdict.{Verdict}
 use Rattle.paper.specs.Layout.{Bytes, Block, sender}
 use Rattle.paper.specs.Book.{numbered, isSeriesOf, ownSender, ownSeries}
 use Rattle.paper.specs.Message.{headOf, seriesOf}
-use Rattle.paper.specs.Rules.{_then_, broken, rule8, rule9, rule10, valuesVerdict, eachSeries, lastVerdict, judge}
+use Rattle.paper.specs.Rules.{_then_, broken, brokenBy, rule8, wrongCharacter, rule9, rule10, valuesVerdict, eachSeries, lastVerdict, judge}
 use Rattle.rules.specs.ByPlaces.{rule7By}
 
 -- rules 7 to 10 on the series y, by whether another has its id or its pair
 unfoldable pub formBy : (day head : Block) (otherwise : Bool) (number : ℕ) (y : Block) → Verdict
 formBy day head otherwise number y =
     broken (rule7By otherwise y) 7 number 0
-    then broken (rule8 head y) 8 number 0
+    then brokenBy (rule8 head y) 8 number (wrongCharacter y)
     then broken (rule9 day y) 9 number 0
     then broken (rule10 y) 10 number 0
 

@@ -4,9 +4,10 @@ ghost use mathlib.Core.Bool.{true};
 ghost use lib.ListN.{length};
 ghost use Rattle.laws.specs.Cut.{cut};
 ghost use Rattle.paper.specs.Layout.{sender};
+ghost use Rattle.paper.specs.Eic.{eicNumber};
 ghost use Rattle.paper.specs.Book.{slotOf};
 ghost use Rattle.paper.specs.Message.{headOf, seriesOf};
-ghost use Rattle.paper.specs.Rules.{broken, headVerdict, verdict};
+ghost use Rattle.paper.specs.Rules.{broken, brokenBy, rule4, headVerdict, verdict};
 ghost use Rattle.index.specs.declared.By.the-variants.{Pair};
 ghost use Rattle.index.specs.Linked.{Found};
 ghost use Rattle.judge.specs.Order.{lastVerdictOf};
@@ -16,6 +17,7 @@ pub mod order;
 pub mod positions;
 pub mod series;
 
+use eic::eic_number;
 use field::part_of;
 use index::By;
 use index::IN_MESSAGE;
@@ -25,7 +27,9 @@ use message::head_of;
 use message::rule_2;
 use message::series_of;
 use order::broken;
+use order::fine;
 use order::first_of_four;
+use order::verdict_of;
 use paper::Slot;
 use paper::Verdict;
 use rules::head::rule_3;
@@ -40,13 +44,23 @@ use slots::slot_of;
 use slots::used_part;
 use sound::sound;
 
+// Rule 4. Which character is wrong is worked out only where one is.
+fn sender_verdict(h: &[u8]) -> Verdict
+    ensures { λ r. ⌜ r ≡ brokenBy (rule4 (now (h .entry))) 4 0 (eicNumber (sender (now (h .entry)))) ⌝ }
+{
+    if rule_4(h) {
+        return verdict_of(4, 0, 0, eic_number(sender(h)));
+    }
+    fine()
+}
+
 // Rules 3 to 6 cost little beside the series: all four are judged, and the first broken one is named.
 fn head_verdict(d: &[u8], known: &[u8], h: &[u8]) -> Verdict
     ensures { λ r. ⌜ r ≡ headVerdict (now (d .entry)) (now (known .entry)) (now (h .entry)) ⌝ }
 {
     first_of_four(
         rule_3(d, h),
-        rule_4(h),
+        sender_verdict(h),
         rule_5(d, h),
         rule_6(known, h),
         3,

@@ -3,13 +3,14 @@ ghost use mathlib.Core.Path.{_≡_};
 ghost use lib.ListN.{length};
 ghost use Rattle.laws.specs.Cut.{cut};
 ghost use Rattle.paper.specs.Message.{seriesOf};
-ghost use Rattle.paper.specs.Rules.{valuesVerdict};
+ghost use Rattle.paper.specs.Rules.{brokenBy, rule8, wrongCharacter, valuesVerdict};
 ghost use Rattle.judge.specs.Order.{formBy, seriesBy, eachSeriesOf};
 ghost use Rattle.judge.specs.Looked.{Taken, LookedIn, Walked};
 use super::order::broken;
 use super::order::fine;
 use super::order::first_of_four;
 use super::order::then;
+use super::order::verdict_of;
 use super::positions::closed_verdict;
 use super::positions::quantity_verdict;
 use index::By;
@@ -26,9 +27,20 @@ use rules::form::rule_7;
 use rules::form::rule_8;
 use rules::form::rule_9;
 use rules::form::rule_10;
+use rules::form::wrong_character;
 use rules::values::rule_15;
 use slots::block_at;
 use slots::numbered;
+
+// Rule 8. Which character is wrong is worked out only where the rule is broken.
+fn parties_verdict(h: &[u8], s: usize, y: &[u8]) -> Verdict
+    ensures { λ r. ⌜ r ≡ brokenBy (rule8 (now (h .entry)) (now (y .entry))) 8 s (wrongCharacter (now (y .entry))) ⌝ }
+{
+    if rule_8(h, y) {
+        return verdict_of(8, s, 0, wrong_character(y));
+    }
+    fine()
+}
 
 // Rules 7 to 10: s is the number of y, and `otherwise` says that another series has its id or its pair.
 fn form_verdict(d: &[u8], h: &[u8], otherwise: bool, s: usize, y: &[u8]) -> Verdict
@@ -36,7 +48,7 @@ fn form_verdict(d: &[u8], h: &[u8], otherwise: bool, s: usize, y: &[u8]) -> Verd
 {
     first_of_four(
         rule_7(y, otherwise),
-        rule_8(h, y),
+        parties_verdict(h, s, y),
         rule_9(d, y),
         rule_10(y),
         7,

@@ -3,12 +3,14 @@ ghost use mathlib.Core.Path.{_≡_};
 ghost use mathlib.Core.List.{_++_};
 ghost use Prim.Native.Nat.{_-_, _≤_};
 ghost use lib.ListN.{length, replicate};
-ghost use Rattle.paper.specs.Opening.{dayBlockOf, openingAllowed, openNumber, opened};
+ghost use Rattle.paper.specs.Opening.{dayBlockOf, openingAllowed, openAnswer, opened};
 ghost use Rattle.opening.specs.Sized.{Sized};
 use block::check::seal;
 use eic::eic_valid;
+use eic::number_of_two;
 use field::day_well_formed;
 use layout::write::write_day_fields;
+use paper::OpenAnswer;
 use sound_blocks::ranges::lead_allowed;
 use sound_blocks::ranges::n_allowed;
 use sound_blocks::ranges::whole_blocks;
@@ -48,16 +50,32 @@ fn write_opened(book: &mut [u8], n: u8, lead: u16, day: &[u8], area: &[u8], rece
     write_day_block(&mut book[..512], n, lead, day, area, receiver);
 }
 
-// 20 is judged before 21, and both before the first byte is written.
-pub fn open(book: &mut [u8], n: u8, lead: u16, day: &[u8], area: &[u8], receiver: &[u8]) -> u32
-    ensures { λ r. ⌜ (r ≡ openNumber (now (book .entry)) (record { n = n; lead = lead; day = now (day .entry); area = now (area .entry); receiver = now (receiver .entry) })) × (now (book .exit) ≡ opened (now (book .entry)) (record { n = n; lead = lead; day = now (day .entry); area = now (area .entry); receiver = now (receiver .entry) })) ⌝ }
+// 20 is judged before 21, and both before the first byte is written. On 21 the codes are judged once more, for the character that is wrong.
+pub fn open(
+    book: &mut [u8],
+    n: u8,
+    lead: u16,
+    day: &[u8],
+    area: &[u8],
+    receiver: &[u8],
+) -> OpenAnswer
+    ensures { λ r. ⌜ (r ≡ openAnswer (now (book .entry)) (record { n = n; lead = lead; day = now (day .entry); area = now (area .entry); receiver = now (receiver .entry) })) × (now (book .exit) ≡ opened (now (book .entry)) (record { n = n; lead = lead; day = now (day .entry); area = now (area .entry); receiver = now (receiver .entry) })) ⌝ }
 {
     if !whole_blocks(2, 1001, book) {
-        return 20;
+        return OpenAnswer {
+            number: 20,
+            character: 0,
+        };
     }
     if !opening_allowed(n, lead, day, area, receiver) {
-        return 21;
+        return OpenAnswer {
+            number: 21,
+            character: number_of_two(area, receiver),
+        };
     }
     write_opened(book, n, lead, day, area, receiver);
-    0
+    OpenAnswer {
+        number: 0,
+        character: 0,
+    }
 }

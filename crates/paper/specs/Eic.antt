@@ -1,10 +1,10 @@
--- "EIC": the check of a party or area code.
+-- "EIC": the check of a party or area code, which says what character is wrong (C-11).
 use mathlib.Core.Bool.{Bool, cond}
 use mathlib.Core.List.{[], _∷_}
 use Prim.Native.Nat.{ℕ, _+_, _-_, _*_, _%_}
 use lib.ListN.{length, take, getD}
-use Rattle.laws.specs.Tests.{_and_, neg, is}
-use Rattle.laws.specs.Lists.{every}
+use Rattle.laws.specs.Tests.{_and_, _or_, neg, is, less}
+use Rattle.laws.specs.Lists.{until}
 use Rattle.paper.specs.Layout.{Bytes}
 use Rattle.paper.specs.Ids.{digit, letter, hyphen}
 
@@ -24,11 +24,25 @@ weighted weight (byte ∷ code) = weight * characterValue byte + weighted (weigh
 unfoldable pub eicSum : (code : Bytes) → ℕ
 eicSum code = weighted 16 (take 15 code)
 
--- "the sixteenth character has value 36 − ((s − 1) mod 37), and is not a hyphen"; fifteen zeros, s = 0, "are refused"
+-- how many of the first fifteen characters stand before the first that is not allowed or is missing; 15 where all are allowed
+unfoldable pub allowedInFront : (code : Bytes) → ℕ
+allowedInFront code = length (until (λ byte. neg (eicCharacter byte)) (take 15 code))
+
+-- "the sixteenth character has value 36 − ((s − 1) mod 37), and is not a hyphen"; it is there, and is the last
+unfoldable pub sixteenthRight : (code : Bytes) → Bool
+sixteenthRight code =
+    is (length code) 16 and neg (hyphen (getD code 15 0)) and is (characterValue (getD code 15 0)) (36 - (eicSum code - 1) % 37)
+
+-- "0 when good, 1 to 15 for the first character that is not allowed, 16 when only the sixteenth is wrong or the first fifteen are all 0", of which s = 0.
+-- A missing character is one not allowed
+unfoldable pub eicNumber : (code : Bytes) → ℕ
+eicNumber code =
+    cond (less (allowedInFront code) 15) (allowedInFront code + 1)
+    (cond (is (eicSum code) 0 or neg (sixteenthRight code)) 16 0)
+
+-- the number of the code that is judged first; if it is good, of the second
+unfoldable pub eicNumberOfTwo : (first : Bytes) (second : Bytes) → ℕ
+eicNumberOfTwo first second = cond (is (eicNumber first) 0) (eicNumber second) (eicNumber first)
+
 unfoldable pub eicValid : (code : Bytes) → Bool
-eicValid code =
-    is (length code) 16
-    and every eicCharacter code
-    and neg (is (eicSum code) 0)
-    and neg (hyphen (getD code 15 0))
-    and is (characterValue (getD code 15 0)) (36 - (eicSum code - 1) % 37)
+eicValid code = is (eicNumber code) 0

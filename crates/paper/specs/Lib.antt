@@ -1,4 +1,4 @@
--- Document 01 as definitions, section by section. No lemma stands here.
+-- Document 01 as definitions, section by section, and the requests of document 02 that have landed. No lemma stands here.
 -- Blocks
 pub mod Check
 pub mod Layout

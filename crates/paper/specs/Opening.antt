@@ -5,9 +5,11 @@ use Prim.Native.Nat.{ℕ, _-_}
 use lib.ListN.{length, replicate}
 use Rattle.laws.specs.Tests.{_and_, neg, is}
 use Rattle.laws.specs.Bytes.{little}
+use Rattle.paper.specs.declared.OpenAnswer.{OpenAnswer}
 use Rattle.paper.specs.Check.{sealed}
 use Rattle.paper.specs.Layout.{Bytes, Block}
 use Rattle.paper.specs.Ranges.{wholeBlocks, leadAllowed}
+use Rattle.paper.specs.Eic.{eicNumberOfTwo}
 use Rattle.paper.specs.Sound.{daySound}
 
 -- the parameters
@@ -29,6 +31,10 @@ openingAllowed o = is (length (o .day)) 8 and is (length (o .area)) 16 and is (l
 -- "20 length, 21 a parameter no sound day block holds"
 unfoldable pub openNumber : (book : Bytes) (o : Opening) → ℕ
 openNumber book o = cond (neg (wholeBlocks 2 1001 book)) 20 (cond (neg (openingAllowed o)) 21 0)
+
+-- "Open (21) … pass that number on as one more field, 0 elsewhere; for 21 the area … is judged first", whatever else is wrong
+unfoldable pub openAnswer : (book : Bytes) (o : Opening) → OpenAnswer
+openAnswer book o = record { number = openNumber book o; character = cond (is (openNumber book o) 21) (eicNumberOfTwo (o .area) (o .receiver)) 0 }
 
 -- "success writes the day block … and zeroes all slots"
 unfoldable pub opened : (book : Bytes) (o : Opening) → Bytes

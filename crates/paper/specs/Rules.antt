@@ -12,20 +12,21 @@ use Rattle.laws.specs.Order.{first as firstRefusal, along}
 use Rattle.paper.specs.declared.Verdict.{Verdict}
 use Rattle.paper.specs.Layout.{Bytes, Block, zeros, nOf, lead, clockPlus10080, dayOfBook, area, receiver, version, idOf, sender, dayOfMessage, businessType, contractType, inArea, outArea, inParty, outParty, pair, agreement, quantities, quantity}
 use Rattle.paper.specs.Ids.{idWellFormed}
-use Rattle.paper.specs.Eic.{eicValid}
+use Rattle.paper.specs.Eic.{eicNumber, eicNumberOfTwo, eicValid}
 use Rattle.paper.specs.Book.{dayBlock, used, freeSlots, isSender, isSeries, idIs, pairIs, ownSender, ownSeries}
 use Rattle.paper.specs.Sound.{partiesOf, sound}
 use Rattle.paper.specs.Message.{headOf, seriesOf, rule2}
 use Rattle.paper.specs.Codes.{reasonCode}
 
--- ---- "The first broken rule is given, with its code, series number and position (0 where none)"
+-- ---- "The first broken rule is given, with its code, series number and position (0 where none)"; the EIC check's number "as one more field"
 
-abbrev pub verdictOf : (number : ℕ) (series : ℕ) (position : ℕ) → Verdict
-verdictOf number series position = record { number = number; code = reasonCode number; series = series; position = record { 0 = position } }
+abbrev pub verdictOf : (number : ℕ) (series : ℕ) (position : ℕ) (character : ℕ) → Verdict
+verdictOf number series position character =
+    record { number = number; code = reasonCode number; series = series; position = record { 0 = position }; character = character }
 
 -- "Accepted (0, A01)"
 abbrev pub fine : Verdict
-fine = verdictOf 0 0 0
+fine = verdictOf 0 0 0 0
 
 abbrev pub numberOf : Verdict → ℕ
 numberOf v = v .number
@@ -36,7 +37,11 @@ unfoldable pub _then_ : (v : Verdict) (w : Verdict) → Verdict
 v then w = firstRefusal numberOf v w
 
 unfoldable pub broken : (test : Bool) (number : ℕ) (series : ℕ) (position : ℕ) → Verdict
-broken test number series position = cond test (verdictOf number series position) fine
+broken test number series position = cond test (verdictOf number series position 0) fine
+
+-- "submission (4, 8) pass that number on …, 0 elsewhere": character is the number that the EIC check gives
+unfoldable pub brokenBy : (test : Bool) (number : ℕ) (series : ℕ) (character : ℕ) → Verdict
+brokenBy test number series character = cond test (verdictOf number series 0 character) fine
 
 -- "by ascending position over all 100"; at k is the verdict on position k + 1
 unfoldable pub overPositions : (at : ℕ → Verdict) → Verdict
@@ -93,6 +98,10 @@ rule7 own seen y =
 -- "a party not a valid EIC, both equal, or neither the sender"
 unfoldable pub rule8 : (head : Block) (y : Block) → Bool
 rule8 head y = neg (eicValid (inParty y)) or neg (eicValid (outParty y)) or neg (partiesOf (sender head) (pair y))
+
+-- "for 8 the in party is judged first, and parties equal or neither the sender give 0": both codes are good then
+unfoldable pub wrongCharacter : (y : Block) → ℕ
+wrongCharacter y = eicNumberOfTwo (inParty y) (outParty y)
 
 -- "either area is not the book's"
 unfoldable pub rule9 : (day : Block) (y : Block) → Bool
@@ -167,12 +176,15 @@ rule17 known own free series = less free (newBlocks known own series)
 
 unfoldable pub headVerdict : (day : Block) (known : Block) (head : Block) → Verdict
 headVerdict day known head =
-    broken (rule3 day head) 3 0 0 then broken (rule4 head) 4 0 0 then broken (rule5 day head) 5 0 0 then broken (rule6 known head) 6 0 0
+    broken (rule3 day head) 3 0 0
+    then brokenBy (rule4 head) 4 0 (eicNumber (sender head))
+    then broken (rule5 day head) 5 0 0
+    then broken (rule6 known head) 6 0 0
 
 unfoldable pub formVerdict : (day : Block) (own : List Block) (head : Block) (seen : List Block) (number : ℕ) (y : Block) → Verdict
 formVerdict day own head seen number y =
     broken (rule7 own seen y) 7 number 0
-    then broken (rule8 head y) 8 number 0
+    then brokenBy (rule8 head y) 8 number (wrongCharacter y)
     then broken (rule9 day y) 9 number 0
     then broken (rule10 y) 10 number 0
 

@@ -13,14 +13,22 @@ pub struct Slot(pub usize);
 #[repr(C)]
 pub struct Minute(pub u16);
 
-// The answer to a submission: the number of the first broken rule, or 0, with its reason code (0 where it has none; A53 is 53), and the series and the
-// position at which it is broken.
+// The answer to a submission: the number of the first broken rule, or 0, with its reason code (0 where it has none; A53 is 53), the series and the
+// position at which it is broken, and on 4 and 8 the number that the EIC check gives the code at fault: which character is wrong.
 #[repr(C)]
 pub struct Verdict {
     pub number: u32,
     pub code: u8,
     pub series: usize,
     pub position: Position,
+    pub character: u8,
+}
+
+// The answer to an opening, on 21 with the number that the EIC check gives the code at fault.
+#[repr(C)]
+pub struct OpenAnswer {
+    pub number: u32,
+    pub character: u8,
 }
 
 // What the clock's call hands back beside its answer.

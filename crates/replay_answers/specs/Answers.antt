@@ -7,6 +7,7 @@ use Prim.Native.Nat.{ℕ, zero, suc, _+_}
 use lib.ListN.{length, drop}
 use Rattle.laws.specs.Tests.{is, less}
 use Rattle.laws.specs.Bytes.{number}
+use Rattle.paper.specs.declared.OpenAnswer.{OpenAnswer}
 use Rattle.paper.specs.declared.ClockAnswer.{ClockAnswer}
 use Rattle.paper.specs.declared.Verdict.{Verdict}
 use Rattle.paper.specs.declared.MarkAnswer.{MarkAnswer}
@@ -16,7 +17,7 @@ use Rattle.paper.specs.declared.QuantityRead.{QuantityRead}
 use Rattle.paper.specs.declared.QuantityPrinted.{QuantityPrinted}
 use Rattle.paper.specs.Layout.{Bytes, Block}
 use Rattle.paper.specs.Check.{checkFrom, checkOf, checkRight, sealed}
-use Rattle.paper.specs.Eic.{eicValid}
+use Rattle.paper.specs.Eic.{eicNumber}
 use Rattle.paper.specs.Ids.{idWellFormed}
 use Rattle.paper.specs.Codes.{reasonCode}
 use Rattle.paper.specs.QuantityText.{quantityRead, quantityPrinted, printedInto}
@@ -24,7 +25,7 @@ use Rattle.paper.specs.Message.{seriesNumbered}
 use Rattle.paper.specs.Sound.{sound}
 use Rattle.paper.specs.Rules.{verdict}
 use Rattle.paper.specs.Acceptance.{submitted}
-use Rattle.paper.specs.Opening.{Opening, openNumber, opened}
+use Rattle.paper.specs.Opening.{Opening, openAnswer, opened}
 use Rattle.paper.specs.Clock.{clockAnswer, clockMoved}
 use Rattle.paper.specs.Readings.{markAnswer, acceptedBlock}
 use Rattle.paper.specs.Finals.{final}
@@ -40,11 +41,14 @@ use Rattle.stream.specs.Buffer.{bufferNumbers}
 abbrev pub yesOrNo : Bool → ℕ
 yesOrNo b = cond b 1 0
 
+unfoldable pub openTold : OpenAnswer → List ℕ
+openTold a = a .number ∷ a .character ∷ []
+
 unfoldable pub clockTold : ClockAnswer → List ℕ
 clockTold a = a .number ∷ a .state .n ∷ a .state .lead ∷ a .state .clock .0 ∷ []
 
 unfoldable pub verdictTold : Verdict → List ℕ
-verdictTold v = v .number ∷ v .code ∷ v .series ∷ v .position .0 ∷ []
+verdictTold v = v .number ∷ v .code ∷ v .series ∷ v .position .0 ∷ v .character ∷ []
 
 unfoldable pub markTold : MarkAnswer → List ℕ
 markTold m = m .number ∷ m .state ∷ m .first .0 ∷ m .partner .0 ∷ []
@@ -80,7 +84,7 @@ twoNames body = is (behindTwo body) (length body)
 
 unfoldable pub leafNumbers : (tag : ℕ) (body : Bytes) → List ℕ
 leafNumbers tag body =
-    cond (is tag 16) (yesOrNo (eicValid body) ∷ [])
+    cond (is tag 16) (eicNumber body ∷ [])
     (cond (is tag 17) (yesOrNo (idWellFormed body) ∷ [])
     (cond (is tag 18) (readTold (quantityRead body))
     (cond (is tag 20) (checkOf body ∷ yesOrNo (checkRight body) ∷ [])
@@ -136,7 +140,7 @@ unfoldable pub threeNames : (body : Bytes) → Bool
 threeNames body = is (nameEnd body (nameEnd body (nameEnd body 3))) (length body)
 
 unfoldable pub openNumbers : (book body : Bytes) → List ℕ
-openNumbers book body = cond (threeNames body) (openNumber book (openingOf body) ∷ []) []
+openNumbers book body = cond (threeNames body) (openTold (openAnswer book (openingOf body))) []
 
 unfoldable pub openAfter : (book body : Bytes) → Bytes
 openAfter book body = cond (threeNames body) (opened book (openingOf body)) book
@@ -178,14 +182,16 @@ printLine body =
 unfoldable pub sealLine : (block : Bytes) → Bytes
 sealLine block = answerLine (wordOf 21) [] (sealed block)
 
--- ---- every record whose line is made of a book and a body: tags 3 to 22; tags 1 and 2, `length` and `bytes`, are not asked of it (stream, specs/Buffer)
+-- ---- every record whose line is made of a book and a body: tags 3 to 23; tags 1 and 2, `length` and `bytes`, are not asked of it (stream, specs/Buffer)
 
+-- tag 23, `judge`, is told what a submission would be
 unfoldable pub numbersTold : (tag : ℕ) (book body : Bytes) → List ℕ
 numbersTold tag book body =
     cond (less tag 5) (bufferNumbers tag book)
     (cond (less tag 8) (dayNumbers tag book body)
     (cond (less tag 16) (readingNumbers tag book body)
-    (leafNumbers tag body)))
+    (cond (is tag 23) (verdictTold (verdict book body))
+    (leafNumbers tag body))))
 
 unfoldable pub lineOf : (tag : ℕ) (book body : Bytes) → Bytes
 lineOf tag book body =

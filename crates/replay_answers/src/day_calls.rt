@@ -1,4 +1,4 @@
-// The calls that may change the book: open, clock, submit.
+// The calls that may change the book: open, clock, submit; and judge, which tells what submit would.
 ghost use mathlib.Core.Path.{_≡_};
 ghost use Rattle.paper.specs.Rules.{verdict};
 ghost use Rattle.paper.specs.Acceptance.{submitted};
@@ -8,12 +8,14 @@ ghost use Rattle.replay_answers.specs.Answers.{clockTold, verdictTold, o
 use block::numbers::byte_or_zero;
 use block::numbers::number_2;
 use paper::Minute;
+use paper::Verdict;
 use stream::fields::name;
 use stream::fields::name_end;
 use stream::told::Told;
+use stream::told::five;
 use stream::told::four;
 use stream::told::nothing;
-use stream::told::one;
+use stream::told::two;
 
 // One byte of n, two of lead, then the names of day, area and receiver.
 fn open(book: &mut [u8], body: &[u8]) -> Told
@@ -26,7 +28,7 @@ fn open(book: &mut [u8], body: &[u8]) -> Told
     }
     let n = byte_or_zero(body, 0);
     let lead = number_2(body, 1);
-    let number = opening::open(
+    let a = opening::open(
         book,
         n,
         lead,
@@ -34,7 +36,7 @@ fn open(book: &mut [u8], body: &[u8]) -> Told
         name(body, area),
         name(body, receiver),
     );
-    one(number as usize)
+    two(a.number as usize, a.character as usize)
 }
 
 fn clock(book: &mut [u8], minute: Minute) -> Told
@@ -50,11 +52,28 @@ fn clock(book: &mut [u8], minute: Minute) -> Told
     )
 }
 
+fn verdict_told(v: Verdict) -> Told
+    ensures { λ r. ⌜ numbersOf r ≡ verdictTold v ⌝ }
+{
+    five(
+        v.number as usize,
+        v.code as usize,
+        v.series,
+        v.position.0,
+        v.character as usize,
+    )
+}
+
 fn submit(book: &mut [u8], message: &[u8]) -> Told
     ensures { λ r. ⌜ (numbersOf r ≡ verdictTold (verdict (now (book .entry)) (now (message .entry)))) × (now (book .exit) ≡ submitted (now (book .entry)) (now (message .entry))) ⌝ }
 {
-    let v = submit::submit(book, message);
-    four(v.number as usize, v.code as usize, v.series, v.position.0)
+    verdict_told(submit::submit(book, message))
+}
+
+pub fn judge(book: &[u8], message: &[u8]) -> Told
+    ensures { λ r. ⌜ numbersOf r ≡ verdictTold (verdict (now (book .entry)) (now (message .entry))) ⌝ }
+{
+    verdict_told(judge::verdict(book, message))
 }
 
 pub fn numbers(tag: u8, book: &mut [u8], body: &[u8]) -> Told

@@ -7,7 +7,7 @@ use block::check::check_of;
 use block::check::check_right;
 use block::numbers::byte_or_zero;
 use codes::reason_code;
-use eic::eic_valid;
+use eic::eic_number;
 use field::id_well_formed;
 use quantity::quantity_read;
 use stream::told::Told;
@@ -26,7 +26,7 @@ pub fn numbers(tag: u8, body: &[u8]) -> Told
     ensures { λ r. ⌜ numbersOf r ≡ leafNumbers tag (now (body .entry)) ⌝ }
 {
     match tag {
-        16 => one(flag(eic_valid(body))),
+        16 => one(eic_number(body) as usize),
         17 => one(flag(id_well_formed(body))),
         18 => read(body),
         20 => two(check_of(body) as usize, flag(check_right(body))),

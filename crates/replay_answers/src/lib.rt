@@ -27,6 +27,9 @@ fn numbers(tag: u8, book: &mut [u8], body: &[u8]) -> Told
     if tag < 16 {
         return reading_calls::numbers(tag, book, body);
     }
+    if tag == 23 {
+        return day_calls::judge(book, body);
+    }
     leaf_calls::numbers(tag, body)
 }
 

@@ -1,8 +1,9 @@
 // Rules 7 to 10: a series by itself, and beside the message's and the sender's stored series with its id or its pair.
 ghost use mathlib.Core.Path.{_≡_};
-ghost use Rattle.paper.specs.Rules.{rule8, rule9, rule10};
+ghost use Rattle.paper.specs.Rules.{rule8, wrongCharacter, rule9, rule10};
 ghost use Rattle.rules.specs.ByPlaces.{knownOtherwise, rule7By};
 use eic::eic_valid;
+use eic::number_of_two;
 use field::all_zero;
 use field::id_well_formed;
 use field::same;
@@ -47,6 +48,13 @@ pub fn rule_8(h: &[u8], y: &[u8]) -> bool
     ensures { λ r. ⌜ r ≡ rule8 (now (h .entry)) (now (y .entry)) ⌝ }
 {
     !eic_valid(in_party(y)) | !eic_valid(out_party(y)) | !parties_of(sender(h), pair(y))
+}
+
+// What the EIC check says of a series that breaks rule 8. Where both codes are valid that is 0: the parties are equal, or neither is the sender.
+pub fn wrong_character(y: &[u8]) -> u8
+    ensures { λ r. ⌜ r ≡ wrongCharacter (now (y .entry)) ⌝ }
+{
+    number_of_two(in_party(y), out_party(y))
 }
 
 // Both areas are the book's one area.

@@ -72,6 +72,7 @@ words =
     ∷ text "check"
     ∷ text "seal"
     ∷ text "code"
+    ∷ text "judge"
     ∷ [])
 
 unfoldable pub wordOf : ℕ → Bytes

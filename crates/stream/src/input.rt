@@ -14,10 +14,10 @@ pub enum Head {
 
 // The fewest and the most bytes of a body, tag by tag from 0, which is none. The table's columns "shortest" and "longest body".
 fn lawful(tag: u8, n: usize) -> bool
-    requires { ⌜ tag < 23 ⌝ }
+    requires { ⌜ tag < 24 ⌝ }
     ensures { λ r. ⌜ r ≡ lawful tag n ⌝ }
 {
-    let fewest: [usize; 23] = [
+    let fewest: [usize; 24] = [
         1,
         4,
         4,
@@ -41,8 +41,9 @@ fn lawful(tag: u8, n: usize) -> bool
         512,
         512,
         1,
+        0,
     ];
-    let most: [usize; 23] = [
+    let most: [usize; 24] = [
         0,
         4,
         512516,
@@ -66,6 +67,7 @@ fn lawful(tag: u8, n: usize) -> bool
         512,
         512,
         1,
+        131072,
     ];
     let k = tag as usize;
     (fewest[k] <= n) & (n <= most[k])
@@ -76,7 +78,7 @@ fn after_tag(tag: u8) -> Head {
     if tag == 0 {
         return Head::Malformed;
     }
-    if 22 < tag {
+    if 23 < tag {
         return Head::Malformed;
     }
     let mut length = [0u8; 4];

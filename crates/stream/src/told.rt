@@ -8,7 +8,7 @@ ghost use Rattle.stream.specs.Told.{numbersOf};
 // In the order of their line, and how many they are. A malformed record is told nothing.
 pub struct Told {
     pub count: usize,
-    pub numbers: [usize; 4],
+    pub numbers: [usize; 5],
 }
 
 pub fn nothing() -> Told
@@ -16,7 +16,7 @@ pub fn nothing() -> Told
 {
     Told {
         count: 0,
-        numbers: [0, 0, 0, 0],
+        numbers: [0, 0, 0, 0, 0],
     }
 }
 
@@ -25,7 +25,7 @@ pub fn one(a: usize) -> Told
 {
     Told {
         count: 1,
-        numbers: [a, 0, 0, 0],
+        numbers: [a, 0, 0, 0, 0],
     }
 }
 
@@ -34,7 +34,7 @@ pub fn two(a: usize, b: usize) -> Told
 {
     Told {
         count: 2,
-        numbers: [a, b, 0, 0],
+        numbers: [a, b, 0, 0, 0],
     }
 }
 
@@ -43,7 +43,16 @@ pub fn four(a: usize, b: usize, c: usize, d: usize) -> Told
 {
     Told {
         count: 4,
-        numbers: [a, b, c, d],
+        numbers: [a, b, c, d, 0],
+    }
+}
+
+pub fn five(a: usize, b: usize, c: usize, d: usize, e: usize) -> Told
+    ensures { λ r. ⌜ numbersOf r ≡ a ∷ b ∷ c ∷ d ∷ e ∷ [] ⌝ }
+{
+    Told {
+        count: 5,
+        numbers: [a, b, c, d, e],
     }
 }
 

@@ -1,4 +1,4 @@
--- The answer, the reply, then the newline.
+-- The answer, what is wrong with a code, the reply, then the newline.
 use Rattle.laws.specs.Kit.{arith}
 use Rattle.paper.specs.Listing.{text}
 use Rattle.desk_lines.specs.Lines.{verdictLine}
@@ -8,7 +8,7 @@ use Rattle.desk_lines.proofs.verdict_line.Tie as tie
 
 returns : tie.Need-returns
 unfolding verdictLine text
-returns c = then (then (c .before .before .before .before .before .before .before .before .before .before .before .put-answer .ensures) (rw (← c .before .before .before .before .before .before .before .reply .ensures) (c .before .before .before .before .before .before .put-reply .ensures))) (c .before .before .put-end .ensures)
+returns c = then (then (then (c .before .before .before .before .before .before .before .before .before .before .before .before .before .before .before .put-answer .ensures) (c .before .before .before .before .before .before .before .before .before .before .before .put-verdict-fault .ensures)) (rw (← c .before .before .before .before .before .before .before .reply .ensures) (c .before .before .before .before .before .before .put-reply .ensures))) (c .before .before .put-end .ensures)
 
 pub verdict-line-spec : {M : Type 1} → statement M
-verdict-line-spec = tie.close (tie.spec (λ c κs. tt) (λ c κs. tt) (λ c κs. tt) (λ c κs. tt) (λ c. omega arith) returns)
+verdict-line-spec = tie.close (tie.spec (λ c κs. tt) (λ c κs. tt) (λ c κs. tt) (λ c κs. tt) (λ c κs. tt) (λ c. omega arith) returns)

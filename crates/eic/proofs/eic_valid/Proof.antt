@@ -1,13 +1,13 @@
 -- The code is the check by the sum of all sixteen values.
 use Rattle.laws.specs.Kit.{sym, _∙_, arith, needs, now, _and_, neg, is, is-other}
-use Rattle.paper.specs.Eic.{eicValid}
+use Rattle.facts.specs.Eic.{eic-valid-says}
 use Rattle.eic.proofs.Laws.{valid-by-sum}
 use Rattle.eic.proofs.eic_valid.Statement.{statement}
 use Rattle.eic.proofs.eic_valid.Tie as tie
 
 length-no : tie.Need-returns
-unfolding eicValid _and_
-length-no c = rw (is-other _ _ (c .if1 .taken))
+unfolding _and_
+length-no c = sym (eic-valid-says _ ∙ rw (is-other _ _ (c .if1 .taken)))
 
 tested : tie.Need-returns-2
 unfolding _and_ neg is

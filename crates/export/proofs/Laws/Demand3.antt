@@ -1,15 +1,16 @@
 -- Each call gives what its definition gives, and of the definitions demand 3 is proved call by call: an equation for the book after the call, or for the answer,
 -- carries it over.
-use Rattle.laws.specs.Base.{_≡_, refl, sym, _∙_, cond, List, [], _∷_, _++_, ℕ}
+use Rattle.laws.specs.Base.{_≡_, refl, sym, ap, _∙_, cond, List, [], _∷_, _++_, ℕ}
 use Rattle.laws.specs.Tests.{is}
 use Rattle.paper.specs.declared.MarkAnswer.{MarkAnswer}
 use Rattle.paper.specs.declared.FinalAnswer.{FinalAnswer}
 use Rattle.paper.specs.declared.PlainRunAnswer.{PlainRunAnswer}
+use Rattle.paper.specs.declared.OpenAnswer.{OpenAnswer}
 use Rattle.paper.specs.declared.Verdict.{Verdict}
 use Rattle.paper.specs.Layout.{Bytes}
 use Rattle.paper.specs.Rules.{verdict}
 use Rattle.paper.specs.Acceptance.{submitted}
-use Rattle.paper.specs.Opening.{Opening, openNumber, opened}
+use Rattle.paper.specs.Opening.{Opening, openNumber, openAnswer, opened}
 use Rattle.paper.specs.Clock.{clockMoved}
 use Rattle.paper.specs.Finals.{final}
 use Rattle.paper.specs.PlainRun.{plainRun}
@@ -30,12 +31,13 @@ kept : (before : Bytes) {after given : Bytes} {messages counted : List Bytes} �
 unfolding FinalsStay
 kept before {after} {given} {messages} e f h = rw (e, ← f) (demand3 after messages (h .0), final-later before after (sound-book after messages (h .0)) (h .1))
 
-pub opening-kept : (b : Bytes) (o : Opening) {r : ℕ} {c : Bytes} → (r ≡ openNumber b o) × (c ≡ opened b o) → OpeningKeeps b r c
-unfolding OpeningKeeps
-opening-kept b o e = (
-  λ z. rw (e .1) (demand3 (opened b o) [] (opening-begins b o (sym (e .0) ∙ z))),
-  λ n. e .1 ∙ refused-opening-changes-nothing b o (λ z. n (e .0 ∙ z)),
-)
+pub opening-kept : (b : Bytes) (o : Opening) {r : OpenAnswer} {c : Bytes} → (r ≡ openAnswer b o) × (c ≡ opened b o) → OpeningKeeps b (r .number) c
+unfolding OpeningKeeps openAnswer
+opening-kept b o {r} e =
+    let q : r .number ≡ openNumber b o = ap (λ (a : OpenAnswer). a .number) (e .0) in (
+      λ z. rw (e .1) (demand3 (opened b o) [] (opening-begins b o (sym q ∙ z))),
+      λ n. e .1 ∙ refused-opening-changes-nothing b o (λ z. n (q ∙ z)),
+    )
 
 pub clock-kept : (b : Bytes) (minute : ℕ) {c : Bytes} → c ≡ clockMoved b minute → ClockKeeps b c
 unfolding ClockKeeps

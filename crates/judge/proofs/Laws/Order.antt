@@ -1,10 +1,10 @@
 -- Laws of the order of checks: one verdict before another, and rule 14 position by position.
-use Rattle.laws.specs.Kit.{_≡_, refl, sym, ap, ap₂, _∙_, Bool, false, ℕ, zero, suc, _+_, _-_, _≤_, arith, _and_, neg-no, neg-false, upto-yes, upto-true}
+use Rattle.laws.specs.Kit.{_≡_, refl, sym, ap, ap₂, _∙_, Bool, true, false, ℕ, zero, suc, _+_, _-_, _≤_, arith, _and_, neg-no, neg-false, upto-yes, upto-true}
 use Rattle.laws.specs.Order.{along}
 use Rattle.laws.specs.Order.Laws.{first-on, first-stop, along-agree}
 use Rattle.paper.specs.declared.Verdict.{Verdict}
 use Rattle.paper.specs.Layout.{Block}
-use Rattle.paper.specs.Rules.{fine, numberOf, _then_, broken, isOpen, closed, rule14, closedVerdict}
+use Rattle.paper.specs.Rules.{verdictOf, fine, numberOf, _then_, broken, brokenBy, isOpen, closed, rule14, closedVerdict}
 
 -- ---- one verdict before another: v is found first, and w where v is no refusal
 
@@ -23,9 +23,18 @@ then-two e f g = e ∙ ap₂ _then_ f g
 pub broken-by : {v : Verdict} {t u : Bool} (number series position : ℕ) → v ≡ broken t number series position → t ≡ u → v ≡ broken u number series position
 broken-by number series position e f = e ∙ ap (λ t. broken t number series position) f
 
-pub four-by : {t u v w t' u' v' w' : Bool} (number series : ℕ) → t ≡ t' → u ≡ u' → v ≡ v' → w ≡ w'
-    → (broken t number series 0 then broken u (number + 1) series 0 then broken v (number + 2) series 0 then broken w (number + 3) series 0)
-    ≡ (broken t' number series 0 then broken u' (number + 1) series 0 then broken v' (number + 2) series 0 then broken w' (number + 3) series 0)
+-- a rule that names a character: broken, or kept
+pub character-named : {t u : Bool} (number series : ℕ) {v : Verdict} {k character : ℕ} → t ≡ u → t ≡ true → v ≡ verdictOf number series 0 k → k ≡ character → v ≡ brokenBy u number series character
+unfolding brokenBy
+character-named number series e y f q = f ∙ rw (sym e ∙ y, q)
+
+pub character-none : {t u : Bool} (number series character : ℕ) {v : Verdict} → t ≡ u → t ≡ false → v ≡ fine → v ≡ brokenBy u number series character
+unfolding brokenBy
+character-none number series character e n f = f ∙ rw (sym e ∙ n)
+
+pub four-by : {t v w t' v' w' : Bool} {u u' : Verdict} (number series : ℕ) → t ≡ t' → u ≡ u' → v ≡ v' → w ≡ w'
+    → (broken t number series 0 then u then broken v (number + 2) series 0 then broken w (number + 3) series 0)
+    ≡ (broken t' number series 0 then u' then broken v' (number + 2) series 0 then broken w' (number + 3) series 0)
 four-by number series a b c d = rw (a, b, c, d)
 
 -- ---- rule 14, position by position: past the first open one no position is closed

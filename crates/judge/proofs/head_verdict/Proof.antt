@@ -9,7 +9,7 @@ returns : tie.Need-returns
 unfolding headVerdict
 returns c =
     let r = c .before .before in
-    c .first-of-four .ensures ∙ four-by 3 0 (r .before .before .rule-3 .ensures) (r .before .rule-4 .ensures) (r .rule-5 .ensures) (c .before .rule-6 .ensures)
+    c .first-of-four .ensures ∙ four-by 3 0 (r .before .before .rule-3 .ensures) (r .before .sender-verdict .ensures) (r .rule-5 .ensures) (c .before .rule-6 .ensures)
 
 pub head-verdict-spec : {M : Type 1} → statement M
 head-verdict-spec =

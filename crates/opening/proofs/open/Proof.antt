@@ -10,8 +10,9 @@ no-20 c = refused-20 _ _ (denied (c .before .whole-blocks .ensures) (c .if1 .tak
 
 no-21 : tie.Need-returns-2
 no-21 c =
-    let past-20 = c .before .before in
-    refused-21 _ _ (told (past-20 .before .whole-blocks .ensures) (past-20 .if1 .left)) (denied (c .before .opening-allowed .ensures) (c .if2 .taken))
+    let at-21 = c .before in
+    let past-20 = at-21 .before .before in
+    refused-21 _ _ (told (past-20 .before .whole-blocks .ensures) (past-20 .if1 .left)) (denied (at-21 .before .opening-allowed .ensures) (at-21 .if2 .taken)) (c .number-of-two .ensures)
 
 fits : tie.Need-write-opened-requires
 fits c κs =
@@ -27,4 +28,4 @@ done c =
     opened-0 _ _ (told (past-20 .before .whole-blocks .ensures) (past-20 .if1 .left)) (told (past-21 .before .opening-allowed .ensures) (past-21 .if2 .left)) (written .write-opened .ensures)
 
 pub open-spec : {M : Type 1} → statement M
-open-spec = tie.close (tie.spec (λ c κs. tt) (λ c. omega arith) no-20 (λ c κs. tt) (λ c. omega arith) no-21 fits (λ c. omega arith) done)
+open-spec = tie.close (tie.spec (λ c κs. tt) (λ c. omega arith) no-20 (λ c κs. tt) (λ c κs. tt) (λ c. omega arith) no-21 fits (λ c. omega arith) done)

@@ -1,5 +1,5 @@
 -- The code asks the definition's questions; only tags 5 to 7 change the book.
-use Rattle.laws.specs.Kit.{arith, refl, less-true, less-false}
+use Rattle.laws.specs.Kit.{arith, refl, is-equal, is-other, less-true, less-false}
 use Rattle.replay_answers.specs.Answers.{numbersTold, bookAfter}
 use Rattle.replay_answers.proofs.numbers.Statement.{statement}
 use Rattle.replay_answers.proofs.numbers.Tie as tie
@@ -25,12 +25,21 @@ returns-3 c =
 returns-4 : tie.Need-returns-4
 unfolding numbersTold bookAfter
 returns-4 c =
-    let e = c .before in
+    let t = c .before .before in
+    let e = t .before in
     let d = e .before in
-    rw (less-false _ _ (d .before .if1 .left), less-false _ _ (d .if2 .left), less-false _ _ (e .if3 .left)) (c .numbers4 .ensures, refl)
+    rw (less-false _ _ (d .before .if1 .left), less-false _ _ (d .if2 .left), less-false _ _ (e .if3 .left), is-equal _ _ (t .if4 .taken)) (c .judge .ensures, refl)
+
+returns-5 : tie.Need-returns-5
+unfolding numbersTold bookAfter
+returns-5 c =
+    let t = c .before in
+    let e = t .before in
+    let d = e .before in
+    rw (less-false _ _ (d .before .if1 .left), less-false _ _ (d .if2 .left), less-false _ _ (e .if3 .left), is-other _ _ (t .if4 .left)) (c .numbers4 .ensures, refl)
 
 pub numbers-spec : {M : Type 1} → statement M
 numbers-spec =
     tie.close
     (tie.spec (λ c κs. tt) (λ c. omega arith) returns (λ c κs. tt) (λ c. omega arith) returns-2 (λ c κs. tt)
-    (λ c. omega arith) returns-3 (λ c κs. tt) returns-4)
+    (λ c. omega arith) returns-3 (λ c κs. tt) (λ c. omega arith) returns-4 (λ c κs. tt) returns-5)

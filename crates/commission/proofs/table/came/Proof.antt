@@ -1,8 +1,6 @@
 -- Each arm calls what the definition names for its command.
-use Rattle.laws.specs.Kit.{needs, ap, _∙_, refl, is, is-other}
+use Rattle.laws.specs.Kit.{needs, ap, refl, is, is-other}
 use Rattle.paper.specs.declared.QuantityRead.{QuantityRead}
-use Rattle.cases.specs.Case.{flag}
-use Rattle.commission.proofs.Laws.{as-number}
 use Rattle.cases_site.specs.Site.{came, bookAfter}
 use Rattle.commission.proofs.table.came.Statement.{statement}
 use Rattle.commission.proofs.table.came.Tie as tie
@@ -33,7 +31,7 @@ returns-5 c = rw (c .before .before .match .keys5) (c .final-number .ensures, re
 
 returns-7 : tie.Need-returns-7
 unfolding came bookAfter is
-returns-7 c = rw (c .before .match .keys7) (as-number (c .eic-valid .result) ∙ ap flag (c .eic-valid .ensures), refl)
+returns-7 c = rw (c .before .match .keys7) (c .eic-number .ensures, refl)
 
 returns-8 : tie.Need-returns-8
 unfolding came bookAfter is

@@ -1,4 +1,4 @@
--- The branch is the definition's, and the code the table's.
+-- The branch is the definition's.
 use Rattle.paper.specs.Rules.{broken}
 use Rattle.judge.proofs.order.broken.Statement.{statement}
 use Rattle.judge.proofs.order.broken.Tie as tie
@@ -9,6 +9,6 @@ broken-spec =
     tie.close
     (tie.spec
     (λ c κs. tt)
-    (λ c. rw (c .before .if1 .taken, c .reason-code .ensures))
+    (λ c. rw (c .before .if1 .taken) (c .verdict-of .ensures))
     (λ c κs. tt)
     (λ c. rw (c .before .if1 .left) (c .fine .ensures)))

@@ -9,7 +9,7 @@ returns : tie.Need-returns
 unfolding formBy
 returns c =
     let r = c .before .before in
-    c .first-of-four .ensures ∙ four-by 7 _ (r .before .before .rule-7 .ensures) (r .before .rule-8 .ensures) (r .rule-9 .ensures) (c .before .rule-10 .ensures)
+    c .first-of-four .ensures ∙ four-by 7 _ (r .before .before .rule-7 .ensures) (r .before .parties-verdict .ensures) (r .rule-9 .ensures) (c .before .rule-10 .ensures)
 
 pub form-verdict-spec : {M : Type 1} → statement M
 form-verdict-spec =

@@ -7,14 +7,14 @@ use Rattle.replay_answers.proofs.leaf_calls.numbers.Tie as tie
 returns : tie.Need-returns
 unfolding leafNumbers is
 returns c =
-    let f = c .before in
-    rw (f .before .before .match .keys1) (rw (f .flag .ensures, f .before .eic-valid .ensures) at (c .one .ensures))
+    let e = c .before in
+    rw (e .before .match .keys1) (rw (e .eic-number .ensures) at (c .one .ensures))
 
 returns-2 : tie.Need-returns-2
 unfolding leafNumbers is
 returns-2 c =
     let f = c .before in
-    rw (f .before .before .match .keys2) (rw (f .flag2 .ensures, f .before .id-well-formed .ensures) at (c .one2 .ensures))
+    rw (f .before .before .match .keys2) (rw (f .flag .ensures, f .before .id-well-formed .ensures) at (c .one2 .ensures))
 
 returns-3 : tie.Need-returns-3
 unfolding leafNumbers is
@@ -24,7 +24,7 @@ returns-4 : tie.Need-returns-4
 unfolding leafNumbers is
 returns-4 c =
     let f = c .before in
-    rw (f .before .before .before .match .keys4) (rw (f .flag3 .ensures, f .before .check-right .ensures, f .before .before .check-of .ensures) at (c .two .ensures))
+    rw (f .before .before .before .match .keys4) (rw (f .flag2 .ensures, f .before .check-right .ensures, f .before .before .check-of .ensures) at (c .two .ensures))
 
 returns-5 : tie.Need-returns-5
 unfolding leafNumbers
@@ -37,7 +37,7 @@ returns-5 c =
 pub numbers-spec : {M : Type 1} → statement M
 numbers-spec =
     tie.close
-    (tie.spec (λ c κs. tt) (λ c κs. tt) (λ c κs. tt) (λ c κs. tt) (λ c κs. tt)
+    (tie.spec (λ c κs. tt) (λ c. omega arith) (λ c κs. tt) (λ c κs. tt) (λ c κs. tt)
     (λ c κs. tt) (λ c κs. tt) (λ c κs. tt) (λ c. omega arith) (λ c κs. tt) (λ c κs. tt)
     (λ c κs. tt) (λ c κs. tt) (λ c. omega arith) (λ c κs. tt) (λ c. omega arith) (λ c κs. tt) returns
     returns-2 returns-3 returns-4 returns-5)
