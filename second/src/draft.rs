@@ -9,11 +9,15 @@ use crate::counts::{Minute, Position};
 use crate::names;
 use crate::random::Random;
 use crate::stream::MOST_MESSAGE_BYTES;
+use crate::versions::lawful_version;
 
 /// A message in the making: the sender block, then its series, not yet sealed.
+#[derive(Clone)]
 pub struct Draft {
     pub blocks: Vec<Block>,
     sender: Field,
+    /// The version the book keeps of this sender, 0 for a new one.
+    kept_version: u16,
     area: Field,
     n: u16,
     /// The lowest open position; above n when the whole day is closed.
@@ -39,6 +43,17 @@ pub struct Growth {
     pub changed: usize,
     /// All new series stand on this side, at the highest quantity: this drives the net to its limit.
     pub side: Option<Side>,
+    pub version: Version,
+}
+
+/// The version that a draft gets.
+#[derive(Clone, Copy, Debug, PartialEq, Eq)]
+pub enum Version {
+    /// One more than the kept one; 1 from a new sender.
+    Next,
+    /// One that rule 6 takes, if there is one left.
+    Lawful,
+    Exactly(u16),
 }
 
 /// The side of a trade that the sender takes.
@@ -51,12 +66,18 @@ pub enum Side {
 /// Series that others filed, by in and out party.
 type Filed<'book> = HashMap<(Field, Field), &'book Block>;
 
-/// The sender block of a message that follows the kept one, or is the sender's first.
-fn head(random: &mut Random, day: &Block, sender: &Field, kept: Option<&Block>) -> Block {
+/// The sender block of a message that comes after the kept one, or is the sender's first.
+fn head(random: &mut Random, day: &Block, sender: &Field, kept: Option<&Block>, version: Version) -> Block {
     let mut head = [0; BLOCK_BYTES];
     head[KIND] = KIND_SENDER;
     head[N] = day[N];
-    put_u16(&mut head, VERSION, kept.map_or(0, |kept| u16_at(kept, VERSION)).wrapping_add(1));
+    let kept_version = kept.map(|kept| u16_at(kept, VERSION));
+    let version = match version {
+        Version::Next => kept_version.unwrap_or(0).wrapping_add(1),
+        Version::Lawful => lawful_version(random, kept_version),
+        Version::Exactly(version) => version,
+    };
+    put_u16(&mut head, VERSION, version);
     let id = kept.map_or_else(|| names::id(random), |kept| field(kept, ID));
     put_field(&mut head, ID, &id);
     put_field(&mut head, SENDER, sender);
@@ -77,8 +98,9 @@ impl Draft {
         let (clock, lead) = (Minute(u16_at(day, CLOCK)), u16_at(day, LEAD));
         let slot = (1..list.len()).find(|&slot| list[slot][KIND] == KIND_SENDER && field(list[slot], SENDER) == sender);
         let mut draft = Draft {
-            blocks: vec![head(random, day, &sender, slot.map(|slot| list[slot]))],
+            blocks: vec![head(random, day, &sender, slot.map(|slot| list[slot]), growth.version)],
             sender,
+            kept_version: slot.map_or(0, |slot| u16_at(list[slot], VERSION)),
             area: field(day, AREA),
             n,
             first_open: (1..=n).find(|&p| Position(p).is_open(clock, lead)).unwrap_or(n + 1),
@@ -164,6 +186,14 @@ impl Draft {
 
     fn version(&self) -> u16 {
         u16_at(&self.blocks[0], VERSION)
+    }
+
+    /// Makes the version so much higher, and that of each series that carries it.
+    pub fn raise_version(&mut self, by: u16) {
+        let version = self.version();
+        for block in self.blocks.iter_mut().filter(|block| u16_at(block, VERSION) == version) {
+            put_u16(block, VERSION, version.saturating_add(by));
+        }
     }
 
     fn unused_id(&self, random: &mut Random) -> Field {
@@ -331,8 +361,8 @@ cases! {
         MessageId,
         OtherMessageId,
         VersionSame,
-        VersionSkips,
-        VersionOdd,
+        VersionLower,
+        VersionBeyond,
         SeriesId,
         IdTwice,
         IdSwapped,
@@ -355,6 +385,7 @@ cases! {
         ClosedNew,
         SeriesVersionRaised,
         SeriesVersionKept,
+        SeriesVersionNext,
         SeriesVersionOdd,
         Absent,
         NoRoom,
@@ -369,7 +400,7 @@ impl Fault {
             Receiver => 3,
             SenderEic => 4,
             Day | DayText | EveryN => 5,
-            MessageId | OtherMessageId | VersionSame | VersionSkips | VersionOdd => 6,
+            MessageId | OtherMessageId | VersionSame | VersionLower | VersionBeyond => 6,
             SeriesId | IdTwice | IdSwapped | IdOtherPair | PairTwice | PairRenamed => 7,
             InParty | OutParty | EqualParties | Strangers => 8,
             InArea | OutArea => 9,
@@ -378,7 +409,7 @@ impl Fault {
             TooHigh => 12,
             AboveN => 13,
             ClosedChanged | ClosedNew => 14,
-            SeriesVersionRaised | SeriesVersionKept | SeriesVersionOdd => 15,
+            SeriesVersionRaised | SeriesVersionKept | SeriesVersionNext | SeriesVersionOdd => 15,
             Absent => 16,
             NoRoom => 17,
         }
@@ -420,7 +451,7 @@ impl Draft {
 
     /// Rules 3 to 6.
     fn spoil_head(&mut self, random: &mut Random, fault: Fault) {
-        let version = self.version();
+        let kept = self.kept_version;
         let head = &mut self.blocks[0];
         match fault {
             Fault::Receiver => put_field(head, RECEIVER, &names::valid_eic(random)),
@@ -440,11 +471,14 @@ impl Draft {
             }
             Fault::MessageId => put_field(head, ID, &names::malformed_id(random)),
             Fault::OtherMessageId => put_field(head, ID, &names::id(random)),
-            Fault::VersionSame => put_u16(head, VERSION, version.wrapping_sub(1)),
-            Fault::VersionSkips => put_u16(head, VERSION, version.wrapping_add(1)),
+            Fault::VersionSame => put_u16(head, VERSION, kept),
+            Fault::VersionLower => {
+                let lower = random.pick(&[0, 1.min(kept), kept.saturating_sub(1), kept.saturating_sub(256)]);
+                put_u16(head, VERSION, lower);
+            }
             _ => {
-                let odd = random.pick(&[0, 1, 2, 999, 1_000, 65_535, version.wrapping_add(256)]);
-                put_u16(head, VERSION, odd);
+                let beyond = random.pick(&[HIGHEST_VERSION + 1, 1_024, 32_768 + 5, 65_535]);
+                put_u16(head, VERSION, beyond);
             }
         }
     }
@@ -574,6 +608,12 @@ impl Draft {
             Fault::SeriesVersionKept => {
                 let kept = u16_at(&self.blocks[place], VERSION);
                 put_u16(&mut self.blocks[place], VERSION, kept.wrapping_sub(1));
+            }
+            Fault::SeriesVersionNext => {
+                // New and changed series count on from what is kept, where the message leaves versions out.
+                let next = self.kept_version.wrapping_add(1);
+                let carries = |series: &&mut Block| u16_at(*series, VERSION) == version;
+                self.blocks[1..].iter_mut().filter(carries).for_each(|series| put_u16(series, VERSION, next));
             }
             _ => {
                 let odd = random.pick(&[0, 1_000, version.wrapping_add(1), 65_535]);
@@ -792,7 +832,7 @@ mod tests {
         assert_eq!(crate::day::open(&mut book, 96, 45, b"20190131", &area, &receiver), (0, 0));
         for _ in 0..300 {
             for (&fault, &clause) in FormFault::ALL.iter().zip(MessageClause::ALL) {
-                let growth = Growth { new: New::UpTo(4), changed: 50, side: None };
+                let growth = Growth { new: New::UpTo(4), changed: 50, side: None, version: Version::Lawful };
                 let draft = Draft::lawful(&mut random, &book, partners[0], &partners, &growth);
                 let message = draft.finished(&mut random, &[fault]);
                 assert_eq!(broken_clauses(&message), clause.bit(), "{fault:?}");

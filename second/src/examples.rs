@@ -28,6 +28,9 @@ pub const EXAMPLES: &[Example] = &[
     ("the check of a block", checks),
     ("lengths of a book", lengths),
     ("message versions", message_versions),
+    ("first versions", first_versions),
+    ("a version raised after a refusal", raised_after_refusal),
+    ("the last version", last_version),
     ("a message with nothing changed", nothing_changed),
     ("a new series at a closed position", late_new_series),
     ("absent series and full books", absent_and_full),
@@ -111,6 +114,7 @@ fn answer(verdict: Verdict) -> (u8, u8, u16, u16) {
 }
 
 const ACCEPTED: (u8, u8, u16, u16) = (0, 1, 0, 0);
+const REFUSED_BY_6: (u8, u8, u16, u16) = (6, 51, 0, 0);
 
 fn eics() -> Outcome {
     let sums: [(&[u8; 16], u32); 6] = [
@@ -236,14 +240,68 @@ fn book_at_version_2(lead: u16) -> Result<Vec<u8>, String> {
 
 fn message_versions() -> Outcome {
     let book = book_at_version_2(45)?;
-    for (version, expected) in [(3, ACCEPTED), (2, (6, 51, 0, 0)), (4, (6, 51, 0, 0))] {
+    let passing = [3, 4, 5, 258, 998, 999].map(|version| (version, ACCEPTED));
+    let refused = [2, 1, 0, 1_000, 1_001, 65_535].map(|version| (version, REFUSED_BY_6));
+    for (version, expected) in [passing, refused].concat() {
         let mut copy = book.clone();
         let list = [series("TS0001", BUYER, SELLER, version, 96, 50_000)];
         let verdict = submit(&mut copy, &message(SELLER, version, 96, &list));
-        same(&format!("version {version}"), answer(verdict), expected)?;
+        same(&format!("version {version} after 2"), answer(verdict), expected)?;
         same("whether the book changed", copy == book, expected != ACCEPTED)?;
     }
+    let mut other = message(SELLER, 4, 96, &[series("TS0001", BUYER, SELLER, 4, 96, 50_000)]);
+    put_field(block_at_mut(&mut other, 0), ID, &name("MESSAGE-2"));
+    seal(block_at_mut(&mut other, 0));
+    same("another id", answer(judge(&book, &other)), REFUSED_BY_6)
+}
+
+fn first_versions() -> Outcome {
+    let book = opened(10, 96, 45);
+    let passing = [1, 2, 256, 999].map(|version| (version, ACCEPTED));
+    let refused = [0, 1_000, 1_024, 65_535].map(|version| (version, REFUSED_BY_6));
+    for (version, expected) in [passing, refused].concat() {
+        let mut copy = book.clone();
+        let list = [series("TS0001", BUYER, SELLER, version, 96, 50_000)];
+        let verdict = submit(&mut copy, &message(SELLER, version, 96, &list));
+        same(&format!("first version {version}"), answer(verdict), expected)?;
+        same("soundness afterwards", is_sound(&copy), true)?;
+        same("whether the book changed", copy == book, expected != ACCEPTED)?;
+    }
+    let low = [series("TS0001", BUYER, SELLER, 1, 96, 50_000)];
+    same("a new series has the message's", answer(judge(&book, &message(SELLER, 7, 96, &low))), (15, 50, 1, 0))
+}
+
+/// A refusal keeps nothing of the version it refused, so the next filing may use it or go on.
+fn raised_after_refusal() -> Outcome {
+    let book = book_at_version_2(45)?;
+    let mut foreign = series("TS0001", BUYER, SELLER, 3, 96, 50_000);
+    put_field(&mut foreign, IN_AREA, RECEIVER_CODE);
+    for version in [3, 4] {
+        let mut copy = book.clone();
+        same("refused", answer(submit(&mut copy, &message(SELLER, 3, 96, &[foreign]))), (9, 23, 1, 0))?;
+        same("the book", copy == book, true)?;
+        let list = [series("TS0001", BUYER, SELLER, version, 96, 50_000)];
+        same("put right", answer(submit(&mut copy, &message(SELLER, version, 96, &list))), ACCEPTED)?;
+        same("the message version", u16_at(block_at(&copy, 1), VERSION), version)?;
+        same("the series version", u16_at(block_at(&copy, 2), VERSION), version)?;
+    }
     Ok(())
+}
+
+/// Version 999 shuts its sender out for the day, and nobody else.
+fn last_version() -> Outcome {
+    let mut book = opened(10, 96, 45);
+    let filed =
+        |version: u16, value: u32| message(SELLER, version, 96, &[series("TS0001", BUYER, SELLER, version, 96, value)]);
+    same("version 1", answer(submit(&mut book, &filed(1, 1))), ACCEPTED)?;
+    same("version 999", answer(submit(&mut book, &filed(999, 2))), ACCEPTED)?;
+    for version in (0..=1_001).chain([65_535]) {
+        same(&format!("version {version} after 999"), answer(judge(&book, &filed(version, 3))), REFUSED_BY_6)?;
+    }
+    let unchanged = message(SELLER, 1_000, 96, &[series("TS0001", BUYER, SELLER, 999, 96, 2)]);
+    same("nothing changed", answer(submit(&mut book, &unchanged)), REFUSED_BY_6)?;
+    let bought = message(BUYER, 1, 96, &[series("B", BUYER, SELLER, 1, 96, 2)]);
+    same("another sender", answer(submit(&mut book, &bought)), ACCEPTED)
 }
 
 fn nothing_changed() -> Outcome {
@@ -290,13 +348,24 @@ fn absent_and_full() -> Outcome {
 
 fn series_versions() -> Outcome {
     let book = book_at_version_2(0)?;
-    // The stored series has version 2 and 45,000 kW; the message has version 3.
-    for (version, value, expected) in
-        [(2, 45_000, ACCEPTED), (3, 45_000, (15, 50, 1, 0)), (3, 46_000, ACCEPTED), (2, 46_000, (15, 50, 1, 0))]
-    {
-        let list = [series("TS0001", BUYER, SELLER, version, 96, value)];
-        let verdict = submit(&mut book.clone(), &message(SELLER, 3, 96, &list));
-        same(&format!("series version {version} with {value}"), answer(verdict), expected)?;
+    // The stored series has version 2 and 45,000 kW.
+    for message_version in [3, 4, 999] {
+        for version in [1, 2, 3, 4, 998, 999] {
+            for (value, right) in [(45_000, 2), (46_000, message_version)] {
+                let list = [series("TS0001", BUYER, SELLER, version, 96, value)];
+                let verdict = submit(&mut book.clone(), &message(SELLER, message_version, 96, &list));
+                let expected = if version == right { ACCEPTED } else { (15, 50, 1, 0) };
+                let what = format!("series version {version} with {value} in message version {message_version}");
+                same(&what, answer(verdict), expected)?;
+            }
+        }
+    }
+    // A new series beside one that stays.
+    let stored = series("TS0001", BUYER, SELLER, 2, 96, 45_000);
+    for (version, expected) in [(5, ACCEPTED), (3, (15, 50, 2, 0)), (1, (15, 50, 2, 0))] {
+        let new = series("TS0002", SELLER, BUYER, version, 96, 1);
+        let verdict = submit(&mut book.clone(), &message(SELLER, 5, 96, &[stored, new]));
+        same(&format!("new series with version {version}"), answer(verdict), expected)?;
     }
     Ok(())
 }

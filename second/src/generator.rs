@@ -17,6 +17,7 @@ use crate::identifier::LAST_CHARACTER;
 use crate::names;
 use crate::random::Random;
 use crate::stream::{records_between, Record};
+use crate::versions::VersionTurn;
 
 mod calls;
 mod episodes;
@@ -35,7 +36,7 @@ enum Episode {
     Full,
     /// One sender whose nets reach their limit on this side.
     Limit(Side),
-    /// One sender whose filings reach version 999, and try the next.
+    /// One sender whose filings reach version 999 one by one, and what it files then.
     Climb,
 }
 
@@ -54,8 +55,8 @@ const EPISODES: [(Episode, usize); 7] = [
 /// 1 to 999. They are many, so not every stream can have them.
 const WHOLE_CLIMB: u64 = 5;
 
-/// How often the refusal of version 1,000 is asked for after a climb.
-const BEYOND_CLIMB: usize = 3;
+/// How often a climber files after version 999, in vain.
+const BEYOND_CLIMB: usize = 4;
 
 /// Whose code is to be wrong, and how often in one round: rule 4 is broken by one code and rule 8 by
 /// either of two, or by both, so the sender's comes three times.
@@ -77,7 +78,7 @@ struct Repair {
 /// A sender that files again and again.
 struct Climber {
     sender: Field,
-    /// How often it still tries to go beyond version 999.
+    /// How often it still files after version 999.
     beyond: usize,
 }
 
@@ -94,6 +95,7 @@ pub struct Generator {
     wrong_codes: Deck<(WrongCode, u8)>,
     wrong_openings: Deck<(WrongOpening, u8)>,
     wrong_texts: Deck<u8>,
+    versions: Deck<VersionTurn>,
     /// Numbers whose code is asked for.
     numbers: Deck<u8>,
     episode: Episode,
@@ -141,6 +143,7 @@ impl Generator {
             wrong_codes: Deck::of(&at_each_character(&WRONG_CODES)),
             wrong_openings: Deck::of(&at_each_character(WrongOpening::ALL)),
             wrong_texts: Deck::of(&(1..=LAST_CHARACTER).collect::<Vec<u8>>()),
+            versions: Deck::of(&VersionTurn::all()),
             numbers: Deck::of(&(0..=35).collect::<Vec<u8>>()),
             episode: Episode::Small,
             whole_climb: seed % WHOLE_CLIMB == 0,
@@ -195,7 +198,7 @@ impl Generator {
     }
 
     fn action(&mut self, book: &[u8]) {
-        match self.random.weighted(&[54, 8, 8, 5, 12, 4, 6, 3, 3, 20, 3, 2, 9, 2, 8]) {
+        match self.random.weighted(&[51, 8, 8, 5, 12, 4, 6, 3, 3, 20, 3, 2, 9, 2, 9, 6]) {
             0 => self.submission(book),
             1 => self.clock(book),
             2 => self.mark_or_block(book, true),
@@ -210,7 +213,8 @@ impl Generator {
             11 => self.reopen(),
             12 => self.broken_book(book),
             13 => self.listing_at_edge(book),
-            _ => self.wrong_code(book),
+            14 => self.wrong_code(book),
+            _ => self.version(book),
         }
     }
 

@@ -2,6 +2,7 @@
 
 use std::fmt;
 
+use crate::block::*;
 use crate::breach::Breach;
 use crate::desk::Reply;
 use crate::message::{self, MessageClause};
@@ -9,6 +10,7 @@ use crate::sights::{sights, Sight};
 use crate::sound::{self, SoundClause};
 use crate::stream::Record;
 use crate::submission::{Broken, Verdict};
+use crate::versions::{kept_version, VersionCase};
 
 /// Every answer a call can give; none of them may be missing from a long run.
 const ANSWERS: &[(&str, &[u8])] = &[
@@ -34,6 +36,9 @@ const CHARACTERS: &[(&str, &[u8])] = &[
     ("judge 8, character", &[0, 1, 2, 3, 4, 5, 6, 7, 8, 9, 10, 11, 12, 13, 14, 15, 16]),
 ];
 
+/// The calls that judge a version.
+const JUDGING: [&str; 2] = ["submit", "judge"];
+
 /// A count for each number of each row.
 fn zeros(rows: &[(&str, &[u8])]) -> Vec<Vec<u64>> {
     rows.iter().map(|(_, numbers)| vec![0; numbers.len()]).collect()
@@ -54,6 +59,10 @@ pub struct Histogram {
     broken: Vec<u64>,
     breaches: Vec<u64>,
     sights: Vec<u64>,
+    /// For each of the calls that judge a version.
+    versions: [Vec<u64>; 2],
+    /// Sender and version of the message that was refused last.
+    refused: Option<(Field, u16)>,
 }
 
 impl Default for Histogram {
@@ -66,6 +75,8 @@ impl Default for Histogram {
             broken: vec![0; Broken::ALL.len()],
             breaches: vec![0; Breach::ALL.len()],
             sights: vec![0; Sight::ALL.len()],
+            versions: [vec![0; VersionCase::ALL.len()], vec![0; VersionCase::ALL.len()]],
+            refused: None,
         }
     }
 }
@@ -75,10 +86,10 @@ impl Histogram {
         Histogram::default()
     }
 
-    /// Counts one record. The book is the one after it, which a refusal has left alone; the breach is
-    /// the way in which it is broken, where just one clause is.
-    pub fn count(&mut self, record: &Record, reply: &Reply, book: &[u8], breach: Option<Breach>) {
-        for sight in sights(record, reply, book) {
+    /// Counts one record, with the book before it and after it, which a refusal has left alone; the breach
+    /// is the way in which it is broken, where just one clause is.
+    pub fn count(&mut self, record: &Record, reply: &Reply, before: &[u8], book: &[u8], breach: Option<Breach>) {
+        for sight in sights(record, reply, before, book) {
             self.sights[sight as usize] += 1;
         }
         if let (true, Some(breach)) = (record.asks_for_soundness(), breach) {
@@ -94,8 +105,12 @@ impl Histogram {
             Reply::Clock { number, .. } => self.answer("clock", *number, book),
             Reply::Submit(verdict) => {
                 self.verdict("submit", verdict, book);
-                if let (Some(broken), Record::Submit(submitted)) = (verdict.broken, record) {
-                    self.refusal(broken, submitted);
+                if let Record::Submit(submitted) = record {
+                    self.version(0, verdict, submitted, before);
+                    self.raised_after_refusal(verdict, submitted, before);
+                    if let Some(broken) = verdict.broken {
+                        self.refusal(broken, submitted);
+                    }
                 }
             }
             Reply::Mark { number, .. } => self.answer("mark", *number, book),
@@ -104,7 +119,12 @@ impl Histogram {
             Reply::Plain { number, .. } => self.answer("plain", *number, book),
             Reply::Read { number, .. } => self.answer("read", *number, book),
             Reply::Print { number, .. } => self.answer("print", *number, book),
-            Reply::Judge(verdict) => self.verdict("judge", verdict, book),
+            Reply::Judge(verdict) => {
+                self.verdict("judge", verdict, book);
+                if let Record::Judge(judged) = record {
+                    self.version(1, verdict, judged, book);
+                }
+            }
             Reply::Eic(character) => self.character("eic", *character),
             Reply::Sound(false) => self.unsound(book),
             Reply::Listing(text) if text == b"not sound\n" => self.unsound(book),
@@ -138,6 +158,31 @@ impl Histogram {
         tally(CHARACTERS, &mut self.characters, place, character);
     }
 
+    /// Counts what the version of a message is, where nothing else can have decided.
+    fn version(&mut self, call: usize, verdict: &Verdict, message: &[u8], before: &[u8]) {
+        use Broken::{NewSenderVersion0, NewSenderVersionAbove999, VersionAbove999, VersionNotAbove};
+        if let None | Some(NewSenderVersion0 | NewSenderVersionAbove999 | VersionNotAbove | VersionAbove999) =
+            verdict.broken
+        {
+            let (sender, version) = sender_and_version(message);
+            let case = VersionCase::of(kept_version(before, &sender), version);
+            self.versions[call][case as usize] += 1;
+        }
+    }
+
+    /// Whether a message is in whose version was raised after a refusal.
+    fn raised_after_refusal(&mut self, verdict: &Verdict, message: &[u8], before: &[u8]) {
+        if verdict.number() >= 3 {
+            self.refused = Some(sender_and_version(message));
+        } else if verdict.broken.is_none() {
+            let (sender, version) = sender_and_version(message);
+            let between = kept_version(before, &sender).unwrap_or(0) + 1..version;
+            if self.refused.take().map_or(false, |(other, refused)| other == sender && between.contains(&refused)) {
+                self.sights[Sight::RaisedAfterRefusal as usize] += 1;
+            }
+        }
+    }
+
     fn unsound(&mut self, book: &[u8]) {
         let clause = sound::first_broken(book).expect("the book was found not sound");
         self.sound[clause as usize] += 1;
@@ -168,11 +213,22 @@ impl Histogram {
         for (breach, &count) in Breach::ALL.iter().zip(&self.breaches) {
             rows.push((format!("broken alone: {}", breach.text()), count));
         }
+        for (call, counts) in JUDGING.iter().zip(&self.versions) {
+            for (case, &count) in VersionCase::ALL.iter().zip(counts) {
+                rows.push((format!("{call}, version: {}", case.text()), count));
+            }
+        }
         for (sight, &count) in Sight::ALL.iter().zip(&self.sights) {
             rows.push((format!("seen: {}", sight.text()), count));
         }
         rows
     }
+}
+
+/// Of a message whose form is right.
+fn sender_and_version(message: &[u8]) -> (Field, u16) {
+    let head = block_at(message, 0);
+    (field(head, SENDER), u16_at(head, VERSION))
 }
 
 impl fmt::Display for Histogram {

@@ -34,3 +34,4 @@ pub mod selfcheck;
 pub mod sights;
 pub mod stream;
 pub mod texts;
+pub mod versions;

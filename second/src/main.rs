@@ -169,9 +169,10 @@ fn histogram(seed: u64, calls: u64, streams: u64, fewest: u64) -> bool {
         let mut made = 0;
         while made < calls {
             let record = generator.next(desk.book());
+            let before = desk.book().to_vec();
             let reply = desk.answer(&record).expect("the generator keeps within the buffer");
             made += u64::from(record.is_call());
-            histogram.count(&record, &reply, desk.book(), generator.breach());
+            histogram.count(&record, &reply, &before, desk.book(), generator.breach());
         }
     }
     print!("{histogram}");

@@ -1,5 +1,5 @@
 //! The self-check: the worked examples, then random calls with demand 3 held against the plain
-//! rule after every acceptance, and each wrong character against a reckoning of its own.
+//! rule after every acceptance, and each wrong character and rule 6 against a reckoning of its own.
 
 use std::collections::HashMap;
 
@@ -10,10 +10,12 @@ use crate::desk::{Desk, Reply};
 use crate::examples::EXAMPLES;
 use crate::generator::Generator;
 use crate::histogram::Histogram;
+use crate::identifier::is_well_formed_id;
 use crate::plain_rule::{self, Matching, PlainMark};
 use crate::readings::{final_in, plain_run};
 use crate::stream::Record;
 use crate::submission::submit;
+use crate::versions::kept_sender;
 
 /// How many finals are remembered for one opening, so that reading them again stays quick.
 const MOST_FINALS: usize = 200;
@@ -37,6 +39,15 @@ impl Ledger {
         if character_told(reply) != character_due(record, reply) {
             return Err("another character is told than the wrong one".into());
         }
+        if let (Record::Submit(message), Reply::Submit(verdict)) | (Record::Judge(message), Reply::Judge(verdict)) =
+            (record, reply)
+        {
+            // What comes before rule 6 says nothing about it.
+            let passed = verdict.number() == 0 || verdict.number() > 6;
+            if (passed || verdict.number() == 6) && passed != passes_rule_6(message, before) {
+                return Err("rule 6 is answered otherwise than id and version ask".into());
+            }
+        }
         let refused = match reply {
             Reply::Open { number, .. } | Reply::Clock { number, .. } => *number != 0,
             Reply::Submit(verdict) => verdict.broken.is_some(),
@@ -57,6 +68,7 @@ impl Ledger {
             }
             (Record::Submit(message), _) => {
                 written_only_where_allowed(message, before, after)?;
+                series_versions_follow(message, before)?;
                 if before == self.legal_book {
                     self.legal_book = after.to_vec();
                     self.accepted.push(message.clone());
@@ -173,6 +185,33 @@ fn plain_character(code: &[u8]) -> u8 {
     }
 }
 
+/// Rule 6, by listing the versions that may come.
+fn passes_rule_6(message: &[u8], before: &[u8]) -> bool {
+    let head = block_at(message, 0);
+    let kept = kept_sender(before, &field(head, SENDER));
+    let may_come: Vec<u16> =
+        (1..=999).filter(|&version| kept.map_or(true, |kept| u16_at(kept, VERSION) < version)).collect();
+    let same_id = kept.map_or(true, |kept| field(kept, ID) == field(head, ID));
+    same_id && is_well_formed_id(&field(head, ID)) && may_come.contains(&u16_at(head, VERSION))
+}
+
+/// After an acceptance: a series that is kept with these quantities has its version still, any other the
+/// message's, however far that is from the one before.
+fn series_versions_follow(message: &[u8], before: &[u8]) -> Result<(), String> {
+    let book = SoundBook::of(before).ok_or("an acceptance on a book that is not sound")?;
+    let head = block_at(message, 0);
+    for series in blocks(message).skip(1) {
+        let due = match book.find_series(&field(head, SENDER), &field(series, ID)) {
+            Some((_, kept)) if kept[VALUES..CHECK] == series[VALUES..CHECK] => u16_at(kept, VERSION),
+            _ => u16_at(head, VERSION),
+        };
+        if u16_at(series, VERSION) != due {
+            return Err("a series has neither the kept version nor the message's, as its quantities ask".into());
+        }
+    }
+    Ok(())
+}
+
 /// Marks and nets as a book keeps them; the partner is told as the series in its slot.
 fn kept_matching(book: &SoundBook) -> Matching {
     let mut kept = Matching::default();
@@ -269,13 +308,11 @@ fn checked_calls(seed: u64, calls: u64, histogram: &mut Histogram) -> Result<Led
     let mut made = 0;
     while made < calls {
         let record = generator.next(desk.book());
-        if record.may_change() {
-            before.clear();
-            before.extend_from_slice(desk.book());
-        }
+        before.clear();
+        before.extend_from_slice(desk.book());
         let reply = desk.answer(&record).expect("the generator keeps within the buffer");
         made += u64::from(record.is_call());
-        histogram.count(&record, &reply, desk.book(), generator.breach());
+        histogram.count(&record, &reply, &before, desk.book(), generator.breach());
         ledger
             .observe(&record, &reply, &before, desk.book())
             .map_err(|failure| format!("failed at call {made} of seed {seed}: {failure}"))?;

@@ -12,6 +12,7 @@ use crate::names::read_carelessly;
 use crate::sound::{is_day, MOST_BLOCKS};
 use crate::stream::Record;
 use crate::submission::{judge, Broken, Verdict};
+use crate::versions::{kept_sender, kept_version};
 
 const FIFTEEN_ZEROS: [u8; 15] = [b'0'; 15];
 
@@ -33,6 +34,14 @@ cases! {
         NetNextToLowest "accepted, a net one above its lower limit",
         Version256To998 "accepted, version 256 to 998",
         Version999 "accepted, version 999",
+        JumpAllKept "accepted, versions left out, every series unchanged",
+        JumpSomeKept "accepted, versions left out, a series unchanged and one changed or new",
+        JumpLowByteFalls "accepted, version higher, its low byte lower",
+        RaisedAfterRefusal "accepted, after a refusal of a version between",
+        LowerLowByteRises "rule 6, version lower, its low byte higher",
+        OtherIdAndJump "rule 6 for the message id, versions left out",
+        SeriesCountsOn "rule 15, versions left out, a series one above the kept message",
+        NewSenderSeries1 "rule 15, new sender beginning above 1, its series at 1",
         RefusedAtSeries21To199 "refused at series 21 to 199",
         TopBitBelowTooHigh "rule 11, and 12 at a higher position",
         TooHighBelowTopBit "rule 12, and 11 at a higher position",
@@ -94,13 +103,16 @@ cases! {
     }
 }
 
-/// What one call shows; the book is the one after the call, which a refusal has left alone.
-pub fn sights(record: &Record, reply: &Reply, book: &[u8]) -> Vec<Sight> {
+/// What one call shows, with the book before it and after it; a refusal has left it alone.
+pub fn sights(record: &Record, reply: &Reply, before: &[u8], book: &[u8]) -> Vec<Sight> {
     match (record, reply) {
-        (Record::Submit(message), Reply::Submit(verdict)) => match verdict.broken {
-            None => acceptance(message, book),
-            Some(broken) => [refusal(message, verdict, broken, book), codes_of_refusal(message, verdict)].concat(),
-        },
+        (Record::Submit(message), Reply::Submit(verdict)) => {
+            let of_verdict = match verdict.broken {
+                None => acceptance(message, book),
+                Some(broken) => [refusal(message, verdict, broken, book), codes_of_refusal(message, verdict)].concat(),
+            };
+            [of_verdict, versions(message, verdict, before)].concat()
+        }
         (Record::Open { n, lead, day, area, receiver }, Reply::Open { number: 21, .. }) => {
             let other = !matches!(n, 92 | 96 | 100) || *lead > LONGEST_LEAD || !is_day(day);
             let mut seen = held(&[(*lead == LONGEST_LEAD + 1, Sight::LeadBeyondLongest)]);
@@ -152,17 +164,13 @@ fn held(list: &[(bool, Sight)]) -> Vec<Sight> {
 fn acceptance(message: &[u8], book: &[u8]) -> Vec<Sight> {
     let head = block_at(message, 0);
     let (n, version, series) = (head[N], u16_at(head, VERSION), blocks(message).len() - 1);
-    let sender = field(head, SENDER);
-    let kept = blocks(book).skip(1).find(|block| block[KIND] == KIND_SENDER && field(block, SENDER) == sender);
+    let kept = kept_sender(book, &field(head, SENDER));
     let has_net = |limit: i32| kept.map_or(false, |block| nets(block).any(|net| net == limit));
-    let unchanged = blocks(message).skip(1).all(|series| u16_at(series, VERSION) != version);
     let full = book.len() == MOST_BLOCKS * BLOCK_BYTES && block_at(book, MOST_BLOCKS - 1)[KIND] != 0;
     held(&[
         (n == 92, Sight::AcceptedN92),
         (n == 96, Sight::AcceptedN96),
         (n == 100, Sight::AcceptedN100),
-        (version == 1, Sight::NewSender),
-        (unchanged, Sight::NothingChanged),
         ((21..=99).contains(&series), Sight::Series21To99),
         ((100..=199).contains(&series), Sight::Series100To199),
         (series == 200, Sight::Series200),
@@ -173,6 +181,32 @@ fn acceptance(message: &[u8], book: &[u8]) -> Vec<Sight> {
         (has_net(1 - HIGHEST_NET), Sight::NetNextToLowest),
         ((256..HIGHEST_VERSION).contains(&version), Sight::Version256To998),
         (version == HIGHEST_VERSION, Sight::Version999),
+    ])
+}
+
+/// What the versions of a message show beside the kept ones.
+fn versions(message: &[u8], verdict: &Verdict, before: &[u8]) -> Vec<Sight> {
+    let head = match blocks(message).next() {
+        Some(head) if verdict.number() == 0 || verdict.number() >= 6 => head,
+        _ => return Vec::new(),
+    };
+    let (version, kept) = (u16_at(head, VERSION), kept_version(before, &field(head, SENDER)));
+    let stored = kept.unwrap_or(0);
+    let jump = kept.is_some() && version > stored + 1 && version <= HIGHEST_VERSION;
+    let of_series: Vec<u16> = blocks(message).skip(1).map(|series| u16_at(series, VERSION)).collect();
+    let (carried, unchanged) = (of_series.contains(&version), of_series.iter().any(|&one| one != version));
+    let at_series = of_series.get(usize::from(verdict.series).wrapping_sub(1)).copied().unwrap_or(0);
+    let (accepted, number) = (verdict.broken.is_none(), verdict.number());
+    held(&[
+        (accepted && kept.is_none(), Sight::NewSender),
+        (accepted && !carried, Sight::NothingChanged),
+        (accepted && jump && !carried, Sight::JumpAllKept),
+        (accepted && jump && carried && unchanged, Sight::JumpSomeKept),
+        (accepted && kept.is_some() && version & 255 < stored & 255, Sight::JumpLowByteFalls),
+        (number == 6 && version < stored && version & 255 > stored & 255, Sight::LowerLowByteRises),
+        (verdict.broken == Some(Broken::OtherMessageId) && jump, Sight::OtherIdAndJump),
+        (number == 15 && jump && at_series == stored + 1, Sight::SeriesCountsOn),
+        (number == 15 && kept.is_none() && version > 1 && at_series == 1, Sight::NewSenderSeries1),
     ])
 }
 

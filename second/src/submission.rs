@@ -23,9 +23,10 @@ clauses! {
         Day "day not the book's",
         DayN "n not the book's",
         MessageIdMalformed "message id malformed",
-        NewSenderVersion "new sender: version not 1",
+        NewSenderVersion0 "new sender: version 0",
+        NewSenderVersionAbove999 "new sender: version above 999",
         OtherMessageId "known sender: other message id",
-        VersionNotNext "known sender: version does not follow the kept one",
+        VersionNotAbove "known sender: version not above the kept one",
         VersionAbove999 "known sender: version above 999",
         SeriesIdMalformed "series id malformed",
         SeriesIdEarlier "series id twice in the message",
@@ -63,7 +64,8 @@ impl Broken {
             Receiver => 3,
             SenderEic => 4,
             Day | DayN => 5,
-            MessageIdMalformed | NewSenderVersion | OtherMessageId | VersionNotNext | VersionAbove999 => 6,
+            MessageIdMalformed | OtherMessageId => 6,
+            NewSenderVersion0 | NewSenderVersionAbove999 | VersionNotAbove | VersionAbove999 => 6,
             SeriesIdMalformed | SeriesIdEarlier | SeriesIdStored | PairEarlier | PairStored => 7,
             InParty | OutParty | PartiesEqual | NeitherSender => 8,
             InArea | OutArea => 9,
@@ -206,7 +208,7 @@ fn judge_head(book: &SoundBook, head: &Block, stored: &Stored) -> Result<(), Ver
     }
 }
 
-/// Rules 5 and 6.
+/// Rules 5 and 6. A known sender may leave out versions, and a new one need not begin with 1.
 fn judge_day_and_version(book: &SoundBook, head: &Block, stored: &Stored) -> Result<(), Broken> {
     let day = book.day();
     if head[DAY_IN_SENDER..DAY_IN_SENDER + DAY_DIGITS] != day[DAY_IN_DAY_BLOCK..DAY_IN_DAY_BLOCK + DAY_DIGITS] {
@@ -220,14 +222,15 @@ fn judge_day_and_version(book: &SoundBook, head: &Block, stored: &Stored) -> Res
     }
     let version = u16_at(head, VERSION);
     match stored.slot {
-        None if version != 1 => Err(Broken::NewSenderVersion),
+        None if version == 0 => Err(Broken::NewSenderVersion0),
+        None if version > HIGHEST_VERSION => Err(Broken::NewSenderVersionAbove999),
         None => Ok(()),
         Some(slot) => {
             let kept = book.block(slot);
             if field(head, ID) != field(kept, ID) {
                 Err(Broken::OtherMessageId)
-            } else if version != u16_at(kept, VERSION) + 1 {
-                Err(Broken::VersionNotNext)
+            } else if version <= u16_at(kept, VERSION) {
+                Err(Broken::VersionNotAbove)
             } else if version > HIGHEST_VERSION {
                 Err(Broken::VersionAbove999)
             } else {

@@ -6,10 +6,11 @@ use crate::breach::break_book;
 use crate::clause::cases;
 use crate::counts::{DAY_START, LONGEST_LEAD};
 use crate::crafted::{self, Shape};
-use crate::draft::{Draft, Growth, New};
+use crate::draft::{Draft, Growth, New, Version};
 use crate::names;
 use crate::sound::{is_sound, FEWEST_BLOCKS, MOST_BLOCKS};
 use crate::stream::{Record, MOST_TEXT_BYTES};
+use crate::versions::kept_version;
 
 cases! {
     /// Which code of an opening is wrong.
@@ -247,11 +248,14 @@ impl Generator {
         self.left = 2 * (usize::from(HIGHEST_VERSION) - version + BEYOND_CLIMB);
     }
 
-    /// The next filing of the climber, lawful but for its version in the end.
+    /// The next filing of the climber, one version up; in the end there is no version left for it.
     pub(super) fn climb(&mut self, book: &[u8]) {
         let sender = self.climber.as_ref().expect("there is a climber").sender;
-        let kept = blocks(book).find(|block| block[KIND] == KIND_SENDER && field(block, SENDER) == sender);
-        if kept.map_or(false, |block| u16_at(block, VERSION) == HIGHEST_VERSION) {
+        let kept = kept_version(book, &sender).unwrap_or(0);
+        let mut version = Version::Next;
+        if kept == HIGHEST_VERSION {
+            let after = self.random.pick(&[HIGHEST_VERSION + 1, HIGHEST_VERSION, HIGHEST_VERSION - 1]);
+            version = Version::Exactly(after);
             self.climber = self.climber.take().filter(|climber| climber.beyond > 1);
             match self.climber.as_mut() {
                 None => self.left = 0,
@@ -260,9 +264,12 @@ impl Generator {
         }
         let free = blocks(book).filter(|block| block[KIND] == 0).count();
         let new = New::UpTo(usize::from(free > 2 && self.random.percent(5)));
-        let growth = Growth { new, changed: self.random.pick(&[0, 35, 100]), side: None };
+        let growth = Growth { new, changed: self.random.pick(&[0, 35, 100]), side: None, version };
         let draft = Draft::lawful(&mut self.random, book, sender, &self.partners, &growth);
         let message = draft.finished(&mut self.random, &[]);
+        if kept >= HIGHEST_VERSION - 1 {
+            self.judge_and_show(message.clone());
+        }
         self.submit_and_show(book, message);
     }
 }

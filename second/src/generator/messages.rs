@@ -2,10 +2,11 @@
 
 use super::{reseal, senders_of, Episode, Generator};
 use crate::block::*;
-use crate::draft::{Draft, Fault, FormFault, Growth, New, Side, WrongCode};
+use crate::draft::{Draft, Fault, FormFault, Growth, New, Side, Version, WrongCode};
 use crate::names;
 use crate::stream::Record;
 use crate::submission::judge;
+use crate::versions::{kept_version, VersionTurn};
 
 impl Generator {
     pub(super) fn growth(&mut self, book: &[u8]) -> Growth {
@@ -34,10 +35,21 @@ impl Generator {
             _ => 35,
         };
         let side = random.pick(&[Side::Buys, Side::Sells]);
-        Growth { new, changed, side: Some(side).filter(|_| large && random.percent(40)) }
+        let side = Some(side).filter(|_| large && random.percent(40));
+        Growth { new, changed, side, version: Version::Lawful }
     }
 
+    /// Seldom one at version 999, which files in vain.
     pub(super) fn sender(&mut self, book: &[u8]) -> Field {
+        let sender = self.any_sender(book);
+        if kept_version(book, &sender) == Some(HIGHEST_VERSION) && self.random.percent(80) {
+            self.any_sender(book)
+        } else {
+            sender
+        }
+    }
+
+    fn any_sender(&mut self, book: &[u8]) -> Field {
         let random = &mut self.random;
         let known = senders_of(book);
         let full = blocks(book).filter(|block| block[KIND] == 0).count() < 2;
@@ -66,7 +78,7 @@ impl Generator {
         let kind = random.weighted(&[32, 6, 36, 14, 6, 5, 17, 2, 1]);
         match kind {
             // A message that changes nothing.
-            1 => growth = Growth { new: New::UpTo(0), changed: 0, side: None },
+            1 => growth = Growth { new: New::UpTo(0), changed: 0, side: None, version: Version::Lawful },
             // A lawful message of a sender whose code ends in a hyphen.
             8 => sender = names::hyphen_eic(random),
             _ => {}
@@ -164,7 +176,7 @@ impl Generator {
                 let free = blocks(book).filter(|block| block[KIND] == 0).count();
                 let new = if free <= 200 { New::Filling(0) } else { New::Exactly(random.between(190, 200)) };
                 let side = random.pick(&[Some(Side::Buys), Some(Side::Sells), None, None, None]);
-                let growth = Growth { new, changed: 0, side };
+                let growth = Growth { new, changed: 0, side, version: Version::Lawful };
                 Draft::lawful(random, book, sender, &self.partners, &growth).finished(random, &[])
             }
         };
@@ -177,7 +189,7 @@ impl Generator {
         let sender = self.partners[0];
         let filed = senders_of(book).contains(&sender);
         let new = New::Exactly(if filed { 0 } else { usize::from(MOST_SERIES) });
-        let growth = Growth { new, changed: 0, side: Some(side) };
+        let growth = Growth { new, changed: 0, side: Some(side), version: Version::Lawful };
         let mut draft = Draft::lawful(random, book, sender, &self.partners, &growth);
         if filed {
             draft.move_about_limit(random);
@@ -243,6 +255,57 @@ impl Generator {
         draft.spoil_code(random, whose, character, &self.partners);
         let message = draft.finished(random, &[]);
         self.judge_and_show(message.clone());
+        self.submit_and_show(book, message);
+    }
+
+    /// A message with the version that is next in turn, judged and submitted; or one that comes with a
+    /// higher version once it was refused.
+    pub(super) fn version(&mut self, book: &[u8]) {
+        if self.random.percent(15) {
+            self.raise_after_refusal(book);
+            return;
+        }
+        let growth = self.growth(book);
+        let mut senders = [senders_of(book), self.partners.clone()].concat();
+        self.random.shuffle(&mut senders);
+        let room = blocks(book).filter(|block| block[KIND] == 0).count() >= 2;
+        let dealt = self.versions.deal_serving(&mut self.random, |random, turn| {
+            let mut made = |sender: &Field| Some((*sender, turn.made(random, kept_version(book, sender))?));
+            senders.iter().find_map(|sender| made(sender).filter(|_| room || !turn.needs_room()))
+        });
+        let (turn, (sender, version)) = match dealt {
+            None => return,
+            Some(dealt) => dealt,
+        };
+        let (changed, fault) = match turn {
+            VersionTurn::OtherId => (growth.changed, Some(Fault::OtherMessageId)),
+            VersionTurn::SeriesCountsOn | VersionTurn::NewSeriesCountsOn => (100, Some(Fault::SeriesVersionNext)),
+            _ => (growth.changed, None),
+        };
+        let growth = Growth { changed, version: Version::Exactly(version), ..growth };
+        let random = &mut self.random;
+        let mut draft = Draft::lawful(random, book, sender, &self.partners, &growth);
+        if let Some(fault) = fault {
+            let place = draft.any_place(random);
+            draft.spoil(random, fault, place, &self.partners);
+        }
+        let message = draft.finished(random, &[]);
+        self.judge_and_show(message.clone());
+        self.submit_and_show(book, message);
+    }
+
+    /// A spoilt message, and the same put right, its version raised all the same.
+    fn raise_after_refusal(&mut self, book: &[u8]) {
+        let (sender, growth) = (self.sender(book), self.growth(book));
+        let mut draft = Draft::lawful(&mut self.random, book, sender, &self.partners, &growth);
+        let mut spoilt = draft.clone();
+        self.spoil(&mut spoilt);
+        let spoilt = spoilt.finished(&mut self.random, &[]);
+        if !is_accepted(book, &spoilt) {
+            self.submit_and_show(book, spoilt);
+            draft.raise_version(self.random.pick(&[1, 1, 2, 5]));
+        }
+        let message = draft.finished(&mut self.random, &[]);
         self.submit_and_show(book, message);
     }
 }
