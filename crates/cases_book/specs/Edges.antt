@@ -48,11 +48,28 @@ unfoldable pub ofVersions : Bytes → List Case
 ofVersions book =
     versions book gives (2 ∷ 1 ∷ [])
     ∷ submission book (head seller 3 1 ++ sale 1 (steady 45000)) gives acceptance
+    ∷ submission book (head seller 1 1 ++ sale 1 (steady 45000)) gives broken 6 0 0 51
     ∷ submission book (head seller 2 1 ++ sale 1 (steady 45000)) gives broken 6 0 0 51
-    ∷ submission book (head seller 4 1 ++ sale 1 (steady 45000)) gives broken 6 0 0 51
+    -- "With 2 stored, 4 passes" (C-12)
+    ∷ submission book (head seller 4 1 ++ sale 1 (steady 45000)) gives acceptance
+    ∷ submission book (head seller 999 1 ++ sale 1 (steady 45000)) gives acceptance
+    ∷ submission book (head seller 1000 1 ++ sale 1 (steady 45000)) gives broken 6 0 0 51
     -- a new series has the message's version; the other keeps its own
     ∷ once versions (after book (head seller 3 2 ++ buyback 3 (steady 7) ++ sale 1 (steady 45000))) gives (3 ∷ 1 ∷ 3 ∷ [])
     ∷ []
+
+-- "from a new sender any from 1" (C-12), up to 999; its series have the message's version
+unfoldable pub ofFirstVersions : Bytes → List Case
+ofFirstVersions book =
+    submission book (head buyer 2 1 ++ purchase 2 (steady 45000)) gives acceptance
+    ∷ submission book (head buyer 999 1 ++ purchase 999 (steady 45000)) gives acceptance
+    ∷ submission book (head buyer 1000 1 ++ purchase 1000 (steady 45000)) gives broken 6 0 0 51
+    ∷ submission book (head buyer 2 1 ++ purchase 1 (steady 45000)) gives broken 15 1 0 50
+    ∷ []
+
+pub firstVersions : wrong (once ofFirstVersions (sold 5)) ≡ []
+unfolding paper examples ofFirstVersions
+firstVersions = refl
 
 pub versionsKept : wrong (once ofVersions filedTwice) ≡ []
 unfolding paper examples filedTwice ofVersions

@@ -46,7 +46,7 @@ ofFirstBlock book =
     ∷ submission book (withId (id "plan") firstBlock ++ quiet) gives broken 6 0 0 51
     ∷ submission book (over 23 (65 ∷ []) firstBlock ++ quiet) gives broken 6 0 0 51
     ∷ submission book (head buyer 0 1 ++ quiet) gives broken 6 0 0 51
-    ∷ submission book (head buyer 2 1 ++ quiet) gives broken 6 0 0 51
+    ∷ submission book (head buyer 1000 1 ++ quiet) gives broken 6 0 0 51
     ∷ []
 
 -- rules 7 to 10: what a series is

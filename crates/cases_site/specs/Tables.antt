@@ -72,8 +72,8 @@ versions =
     ∷ text "submit|message BILANZ\nversion 2||0|message with nothing changed"
     ∷ text "block|||1|and the series version kept"
     ∷ text "submit|message BILANZ\nversion 2||6|stored version 2, version 2 again"
-    ∷ text "submit|message BILANZ\nversion 4||6|stored version 2, version 4"
-    ∷ text "submit|message BILANZ\nversion 3||0|stored version 2, version 3"
+    ∷ text "submit|message BILANZ\nversion 4||0|stored version 2, version 4"
+    ∷ text "submit|message BILANZ\nversion 3||6|stored version 4, version 3"
     ∷ [])
 
 -- a new series, positions 1 to 4 closed

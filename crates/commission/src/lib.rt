@@ -84,8 +84,8 @@ fn versions_right() -> bool
         submit|message BILANZ\nversion 2||0|message with nothing changed;\
         block|||1|and the series version kept;\
         submit|message BILANZ\nversion 2||6|stored version 2, version 2 again;\
-        submit|message BILANZ\nversion 4||6|stored version 2, version 4;\
-        submit|message BILANZ\nversion 3||0|stored version 2, version 3;",
+        submit|message BILANZ\nversion 4||0|stored version 2, version 4;\
+        submit|message BILANZ\nversion 3||6|stored version 4, version 3;",
     )
 }
 

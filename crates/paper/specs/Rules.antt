@@ -12,6 +12,7 @@ use Rattle.laws.specs.Order.{first as firstRefusal, along}
 use Rattle.paper.specs.declared.Verdict.{Verdict}
 use Rattle.paper.specs.Layout.{Bytes, Block, zeros, nOf, lead, clockPlus10080, dayOfBook, area, receiver, version, idOf, sender, dayOfMessage, businessType, contractType, inArea, outArea, inParty, outParty, pair, agreement, quantities, quantity}
 use Rattle.paper.specs.Ids.{idWellFormed}
+use Rattle.paper.specs.Ranges.{versionAllowed}
 use Rattle.paper.specs.Eic.{eicNumber, eicNumberOfTwo, eicValid}
 use Rattle.paper.specs.Book.{dayBlock, used, freeSlots, isSender, isSeries, idIs, pairIs, ownSender, ownSeries}
 use Rattle.paper.specs.Sound.{partiesOf, sound}
@@ -65,12 +66,12 @@ rule4 head = neg (eicValid (sender head))
 unfoldable pub rule5 : (day : Block) (head : Block) → Bool
 rule5 day head = neg (same (dayOfMessage head) (dayOfBook day)) or neg (is (nOf head) (nOf day))
 
--- "new sender: version not 1; known sender: other id, or version not the stored one plus 1, or above 999"
+-- "known sender: other id"; of the version C-12: "any version above the stored one up to 999, and from a new sender any from 1"
 unfoldable pub idOrVersionBroken : (known : Block) (head : Block) → Bool
 idOrVersionBroken known head =
     cond (isSender known)
-    (neg (same (idOf head) (idOf known)) or neg (is (version head) (version known + 1)) or less 999 (version head))
-    (neg (is (version head) 1))
+    (neg (same (idOf head) (idOf known)) or upto (version head) (version known) or less 999 (version head))
+    (neg (versionAllowed (version head)))
 
 -- "message id malformed", or these
 unfoldable pub rule6 : (known : Block) (head : Block) → Bool

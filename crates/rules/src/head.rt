@@ -12,6 +12,7 @@ use layout::receiver;
 use layout::sender;
 use layout::version;
 use slots::is_sender;
+use sound_blocks::ranges::version_allowed;
 
 // "Receiver is not the book's": the message was meant for another desk.
 pub fn rule_3(d: &[u8], h: &[u8]) -> bool
@@ -39,11 +40,9 @@ fn id_or_version_broken(known: &[u8], h: &[u8]) -> bool
     ensures { λ r. ⌜ r ≡ idOrVersionBroken (now (known .entry)) (now (h .entry)) ⌝ }
 {
     if is_sender(known) {
-        return !same(id_of(h), id_of(known))
-            | !(version(h) as u32 == version(known) as u32 + 1)
-            | (999 < version(h));
+        return !same(id_of(h), id_of(known)) | (version(h) <= version(known)) | (999 < version(h));
     }
-    !(version(h) == 1)
+    !version_allowed(version(h))
 }
 
 // The one rule of the first block that asks what is stored of the sender.
