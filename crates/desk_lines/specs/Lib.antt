@@ -1,3 +1,2 @@
 -- The lines that the program desk answers.
-pub mod Faults
 pub mod Lines

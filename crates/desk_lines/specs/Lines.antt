@@ -21,7 +21,7 @@ use Rattle.desk_text.specs.Numbers.{minuteText}
 use Rattle.desk_text.specs.Pieces.{worded, named, codeText}
 use Rattle.desk_text.specs.Replies.{replyText}
 use Rattle.desk_text.specs.Words.{meaning, stateMeaning}
-use Rattle.desk_lines.specs.Faults.{fault, openingFault, verdictFault}
+use Rattle.desk_faults.specs.Faults.{fault, openingFault, verdictFault}
 
 -- ---- the parts of a line
 

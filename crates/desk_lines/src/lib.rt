@@ -7,20 +7,18 @@ ghost use Rattle.paper.specs.Listing.{text};
 ghost use Rattle.desk_text.specs.Put.{Put};
 ghost use Rattle.desk_lines.specs.Lines.{status, reason, answerText, answerOf, megawatts, stateText, markText, dayText, nameText, seriesText, quantitiesText};
 ghost use Rattle.desk_lines.specs.Lines.{verdictLine, openLine, clockLine, markLine, finalLine, plainLine, quantityLine, eicLine, blockLine};
-
-mod faults;
-
+use desk_faults::put_fault;
+use desk_faults::put_opening_fault;
+use desk_faults::put_verdict_fault;
 use desk_text::numbers::put_minute;
 use desk_text::pieces::put_code;
+use desk_text::pieces::put_field;
 use desk_text::pieces::put_named;
 use desk_text::pieces::put_worded;
 use desk_text::put::put;
 use desk_text::replies::put_reply;
 use desk_text::words::put_meaning;
 use desk_text::words::put_state_meaning;
-use faults::put_fault;
-use faults::put_opening_fault;
-use faults::put_verdict_fault;
 use field::id_text;
 use paper::ClockAnswer;
 use paper::DayState;
@@ -218,14 +216,6 @@ pub fn eic_line(line: &mut [u8], code: &[u8], character: u8) -> usize
 }
 
 // ---- an accepted block
-
-// A word, and a field as it stands.
-fn put_field(line: &mut [u8], at: usize, word: &[u8], s: &[u8]) -> usize
-    ensures { λ r. ⌜ Put at (now (word .entry) ++ now (s .entry)) r (now (line .entry)) (now (line .exit)) ⌝ }
-{
-    let behind = put(line, at, word);
-    put(line, behind, s)
-}
 
 fn put_name(line: &mut [u8], at: usize, x: &[u8]) -> usize
     ensures { λ r. ⌜ Put at (nameText (now (x .entry))) r (now (line .entry)) (now (line .exit)) ⌝ }

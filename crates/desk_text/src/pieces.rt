@@ -1,4 +1,5 @@
-// The pieces that lines are made of: a word with its number, a code.
+// The pieces that lines are made of: a word with its number or its field, a code.
+ghost use mathlib.Core.List.{_++_};
 ghost use Rattle.desk_text.specs.Put.{Put};
 ghost use Rattle.desk_text.specs.Pieces.{worded, named, codeText};
 use super::numbers::put_digits;
@@ -31,4 +32,12 @@ pub fn put_code(line: &mut [u8], at: usize, code: u8) -> usize
     }
     let behind = put(line, at, b" A");
     put_digits(line, behind, 2, code as usize)
+}
+
+// A word, and a field as it stands.
+pub fn put_field(line: &mut [u8], at: usize, word: &[u8], s: &[u8]) -> usize
+    ensures { λ r. ⌜ Put at (now (word .entry) ++ now (s .entry)) r (now (line .entry)) (now (line .exit)) ⌝ }
+{
+    let behind = put(line, at, word);
+    put(line, behind, s)
 }

@@ -1,9 +1,9 @@
 -- The receiver's code is told of where the area's is good.
 use Rattle.laws.specs.Kit.{arith, refl}
 use Rattle.paper.specs.Listing.{text}
-use Rattle.desk_lines.specs.Faults.{openingFault}
-use Rattle.desk_lines.proofs.faults.put_opening_fault.Statement.{statement}
-use Rattle.desk_lines.proofs.faults.put_opening_fault.Tie as tie
+use Rattle.desk_faults.specs.Faults.{openingFault}
+use Rattle.desk_faults.proofs.put_opening_fault.Statement.{statement}
+use Rattle.desk_faults.proofs.put_opening_fault.Tie as tie
 
 returns : tie.Need-returns
 unfolding openingFault text

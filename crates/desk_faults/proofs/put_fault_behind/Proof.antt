@@ -1,10 +1,10 @@
 -- Nothing, or the semicolon and then the words.
 use Rattle.laws.specs.Kit.{arith, refl, is-equal, is-other}
 use Rattle.paper.specs.Listing.{text}
-use Rattle.desk_lines.specs.Faults.{faultBehind}
+use Rattle.desk_faults.specs.Faults.{faultBehind}
 use Rattle.desk_text.specs.Put.Laws.{then}
-use Rattle.desk_lines.proofs.faults.put_fault_behind.Statement.{statement}
-use Rattle.desk_lines.proofs.faults.put_fault_behind.Tie as tie
+use Rattle.desk_faults.proofs.put_fault_behind.Statement.{statement}
+use Rattle.desk_faults.proofs.put_fault_behind.Tie as tie
 
 returns : tie.Need-returns
 unfolding faultBehind

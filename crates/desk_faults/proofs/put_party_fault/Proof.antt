@@ -1,9 +1,9 @@
 -- The out party's code is told of where the in party's is good.
 use Rattle.laws.specs.Kit.{arith, refl}
 use Rattle.paper.specs.Listing.{text}
-use Rattle.desk_lines.specs.Faults.{partyFault}
-use Rattle.desk_lines.proofs.faults.put_party_fault.Statement.{statement}
-use Rattle.desk_lines.proofs.faults.put_party_fault.Tie as tie
+use Rattle.desk_faults.specs.Faults.{partyFault}
+use Rattle.desk_faults.proofs.put_party_fault.Statement.{statement}
+use Rattle.desk_faults.proofs.put_party_fault.Tie as tie
 
 returns : tie.Need-returns
 unfolding partyFault text

@@ -1,10 +1,10 @@
 -- The code asks the definition's questions, in its order.
 use Rattle.laws.specs.Kit.{arith, refl, less-true, less-false}
 use Rattle.paper.specs.Listing.{text}
-use Rattle.desk_lines.specs.Faults.{fault}
+use Rattle.desk_faults.specs.Faults.{fault}
 use Rattle.desk_text.specs.Put.Laws.{then}
-use Rattle.desk_lines.proofs.faults.put_fault.Statement.{statement}
-use Rattle.desk_lines.proofs.faults.put_fault.Tie as tie
+use Rattle.desk_faults.proofs.put_fault.Statement.{statement}
+use Rattle.desk_faults.proofs.put_fault.Tie as tie
 
 returns : tie.Need-returns
 unfolding fault text

@@ -1,10 +1,10 @@
 -- The three parts stand one behind the other.
 use Rattle.laws.specs.Kit.{arith, refl}
 use Rattle.paper.specs.Listing.{text}
-use Rattle.desk_lines.specs.Faults.{place}
+use Rattle.desk_faults.specs.Faults.{place}
 use Rattle.desk_text.specs.Put.Laws.{then}
-use Rattle.desk_lines.proofs.faults.put_place.Statement.{statement}
-use Rattle.desk_lines.proofs.faults.put_place.Tie as tie
+use Rattle.desk_faults.proofs.put_place.Statement.{statement}
+use Rattle.desk_faults.proofs.put_place.Tie as tie
 
 returns : tie.Need-returns
 unfolding place text

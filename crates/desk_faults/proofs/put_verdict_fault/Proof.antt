@@ -1,9 +1,9 @@
 -- On 4 the sender's code is told of, else a party's.
 use Rattle.laws.specs.Kit.{arith, refl, is-equal, is-other}
 use Rattle.paper.specs.Listing.{text}
-use Rattle.desk_lines.specs.Faults.{verdictFault}
-use Rattle.desk_lines.proofs.faults.put_verdict_fault.Statement.{statement}
-use Rattle.desk_lines.proofs.faults.put_verdict_fault.Tie as tie
+use Rattle.desk_faults.specs.Faults.{verdictFault}
+use Rattle.desk_faults.proofs.put_verdict_fault.Statement.{statement}
+use Rattle.desk_faults.proofs.put_verdict_fault.Tie as tie
 
 returns : tie.Need-returns
 unfolding verdictFault text

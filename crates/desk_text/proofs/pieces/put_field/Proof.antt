@@ -1,8 +1,8 @@
 -- The word, then the field.
 use Rattle.laws.specs.Kit.{arith}
 use Rattle.desk_text.specs.Put.Laws.{then}
-use Rattle.desk_lines.proofs.put_field.Statement.{statement}
-use Rattle.desk_lines.proofs.put_field.Tie as tie
+use Rattle.desk_text.proofs.pieces.put_field.Statement.{statement}
+use Rattle.desk_text.proofs.pieces.put_field.Tie as tie
 
 returns : tie.Need-returns
 returns c = then (c .before .before .before .before .before .before .put .ensures) (c .before .before .put2 .ensures)

@@ -1,7 +1,7 @@
 // What the EIC check finds wrong with a code, in words. The answers name the character; whose code it is follows from the order in which codes are judged.
 ghost use Rattle.desk_text.specs.Put.{Put};
-ghost use Rattle.desk_lines.specs.Faults.{place, fault, faultBehind, openingFault, partyFault, verdictFault};
-use crate::put_field;
+ghost use Rattle.desk_faults.specs.Faults.{place, fault, faultBehind, openingFault, partyFault, verdictFault};
+use desk_text::pieces::put_field;
 use desk_text::pieces::put_worded;
 use desk_text::put::put;
 use eic::eic_valid;
