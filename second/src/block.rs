@@ -36,7 +36,7 @@ pub const IN_PARTY: usize = 56;
 pub const OUT_PARTY: usize = 72;
 pub const AGREEMENT: usize = 88;
 pub const MARK: usize = 104;
-pub const STATE: usize = 104;
+pub const DIFFER: usize = 104;
 pub const FIRST: usize = 105;
 pub const PARTNER: usize = 106;
 pub const VALUES: usize = 108;
@@ -53,12 +53,32 @@ pub const HIGHEST_NET: i32 = 1_999_999_800;
 /// A02, the only business type an internal trade may carry.
 pub const INTERNAL_TRADE: u8 = 2;
 
-/// A mark as a series block keeps it.
+/// A mark as a series block keeps it. A series that agrees with its counterpart and one that has none both
+/// have the count 0; the partner tells them apart.
 #[derive(Clone, Copy, Debug, PartialEq, Eq)]
 pub struct Mark {
-    pub state: u8,
+    /// At how many positions the counterpart differs.
+    pub differ: u8,
+    /// The lowest of them.
     pub first: Position,
     pub partner: Slot,
+}
+
+impl Mark {
+    /// Of a series without counterpart.
+    pub const ALONE: Mark = Mark { differ: 0, first: Position(0), partner: Slot(0) };
+
+    /// Of a series whose counterpart stands in the partner's slot.
+    pub fn between(series: &Block, counterpart: &Block, n: u8, partner: Slot) -> Mark {
+        let mut mark = Mark { partner, ..Mark::ALONE };
+        for position in differing(series, counterpart, n) {
+            if mark.differ == 0 {
+                mark.first = position;
+            }
+            mark.differ += 1;
+        }
+        mark
+    }
 }
 
 /// The check over bytes 0 to 507.
@@ -164,23 +184,27 @@ pub fn put_quantity(series: &mut Block, position: Position, value: u32) {
 }
 
 pub fn mark(series: &Block) -> Mark {
-    Mark { state: series[STATE], first: Position(u16::from(series[FIRST])), partner: Slot(u16_at(series, PARTNER)) }
+    Mark { differ: series[DIFFER], first: Position(u16::from(series[FIRST])), partner: Slot(u16_at(series, PARTNER)) }
 }
 
 /// Writes a mark; the caller seals the block afterwards.
 pub fn put_mark(series: &mut Block, mark: Mark) {
-    series[STATE] = mark.state;
+    series[DIFFER] = mark.differ;
     series[FIRST] = mark.first.0 as u8;
     put_u16(series, PARTNER, mark.partner.0);
 }
 
-/// The lowest of the first n positions at which two series differ.
-pub fn first_difference(one: &Block, other: &Block, n: u8) -> Option<Position> {
-    let end = VALUES + 4 * usize::from(n);
-    if one[VALUES..end] == other[VALUES..end] {
-        return None;
+/// The positions up to n at which two series differ, ascending.
+pub fn differing<'two>(one: &'two Block, other: &'two Block, n: u8) -> impl Iterator<Item = Position> + 'two {
+    let both = quantities(one).zip(quantities(other)).take(usize::from(n));
+    both.zip((1..).map(Position)).filter(|((own, theirs), _)| own != theirs).map(|(_, position)| position)
+}
+
+/// Writes a sender's nets; the caller seals the block afterwards.
+pub fn put_nets(sender: &mut Block, nets: &[i32; POSITIONS]) {
+    for (four, net) in sender[VALUES..CHECK].chunks_exact_mut(4).zip(nets) {
+        four.copy_from_slice(&net.to_le_bytes());
     }
-    (1..=u16::from(n)).map(Position).find(|&p| quantity(one, p) != quantity(other, p))
 }
 
 #[cfg(test)]

@@ -83,8 +83,8 @@ cases! {
         PairTwice "a sender's pair twice",
         CountTooHigh "sender: count higher than that of its series",
         CountTooLow "sender: count lower than that of its series",
-        StateZero "series: state 0",
-        StateAbove "series: state above 3",
+        DifferNextToN "series: byte 104 is n + 1",
+        DifferBeyond "series: byte 104 above n + 1",
         First "series: first above n",
         PartnerSender "series: partner is a sender's slot",
         PartnerFree "series: partner is a free slot",
@@ -141,7 +141,7 @@ impl Breach {
             Breach::SeriesIdTwice => Clause::SeriesIdTwice,
             Breach::PairTwice => Clause::PairTwice,
             Breach::CountTooHigh | Breach::CountTooLow => Clause::CountWrong,
-            Breach::StateZero | Breach::StateAbove => Clause::State,
+            Breach::DifferNextToN | Breach::DifferBeyond => Clause::Byte104,
             Breach::First => Clause::First,
             Breach::PartnerSender | Breach::PartnerFree | Breach::PartnerBeyond => Clause::Partner,
         }
@@ -158,7 +158,8 @@ impl Breach {
 }
 
 /// From a sound book one that is broken in this way. Where the book has too little for it, senders
-/// and series are added first. Nothing if there is no room for them, or no position above n.
+/// and series are added first. Nothing if there is no room for them, or no position above n. What is added
+/// has states that the old layout takes, so an old book stays one but for the breach.
 pub fn break_book(random: &mut Random, book: &[u8], breach: Breach) -> Option<Vec<u8>> {
     let mut pieces = Pieces::of(random, book)?;
     match breach {
@@ -250,7 +251,8 @@ impl Pieces {
         for mut block in filed {
             if block[KIND] == KIND_SERIES {
                 put_u16(&mut block, SENDER_SLOT, slot as u16);
-                put_mark(&mut block, lawful_mark(random, self.n, &series_slots));
+                let mark = lawful_mark(random, self.n, &series_slots);
+                put_mark(&mut block, Mark { differ: random.between(1, 3) as u8, ..mark });
             }
             self.list[self.free] = block;
             self.free += 1;
@@ -375,8 +377,9 @@ impl Pieces {
             Breach::ContractType => series[CONTRACT_TYPE] = other_byte(random, 0),
             Breach::Agreement => series[AGREEMENT + random.below(16)] = other_byte(random, 0),
             Breach::BusinessType => series[BUSINESS_TYPE] = other_byte(random, INTERNAL_TRADE),
-            Breach::StateZero => series[STATE] = 0,
-            Breach::StateAbove => series[STATE] = mostly(random, 4, &[5, 128, 255]),
+            Breach::DifferNextToN => series[DIFFER] = n as u8 + 1,
+            // Where n is lower, 100 is above it too.
+            Breach::DifferBeyond => series[DIFFER] = random.pick(&[255, 255, 128, 100.max(n as u8 + 2)]),
             Breach::First => series[FIRST] = mostly(random, n as u8 + 1, &[128, 255]),
             _ => return self.break_between(random, breach),
         }
@@ -422,6 +425,7 @@ impl Pieces {
                 block[end..CHECK].fill(0);
             }
             if block[KIND] == KIND_SERIES {
+                block[DIFFER] = block[DIFFER].min(n);
                 block[FIRST] = block[FIRST].min(n);
             }
         }
@@ -554,7 +558,8 @@ fn other_n(random: &mut Random, n: usize) -> u8 {
 mod tests {
     use super::*;
     use crate::crafted::{sound_book, Shape};
-    use crate::sound::{broken_clauses, is_sound};
+    use crate::old_book::{old_book, Falsehood};
+    use crate::sound::{broken_clauses, is_sound, Layout};
 
     #[test]
     fn each_breach_breaks_its_clause_alone() {
@@ -569,17 +574,22 @@ mod tests {
             };
             let book = sound_book(&mut random, &pool, &shape);
             assert!(is_sound(&book));
+            let old = old_book(&mut random, &book, Falsehood::Nothing).unwrap_or_else(|| book.clone());
             for &breach in Breach::ALL {
-                if let Some(broken) = break_book(&mut random, &book, breach) {
-                    let set = broken_clauses(&broken);
-                    assert_eq!(SoundClause::first(set), Some(breach.clause()), "{}", breach.text());
-                    assert_eq!(set & !breach.companions(), breach.clause().bit(), "{}", breach.text());
-                    made[breach as usize] += 1;
+                for (from, layouts) in [(&book, &[Layout::New][..]), (&old, &[Layout::New, Layout::Old])] {
+                    if let Some(broken) = break_book(&mut random, from, breach) {
+                        for &layout in layouts {
+                            let set = broken_clauses(&broken, layout);
+                            assert_eq!(SoundClause::first(set), Some(breach.clause()), "{}", breach.text());
+                            assert_eq!(set & !breach.companions(), breach.clause().bit(), "{}", breach.text());
+                        }
+                        made[breach as usize] += 1;
+                    }
                 }
             }
         }
         for (breach, count) in Breach::ALL.iter().zip(made) {
-            assert!(count > 100, "{}: {count}", breach.text());
+            assert!(count > 200, "{}: {count}", breach.text());
         }
     }
 

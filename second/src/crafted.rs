@@ -1,10 +1,11 @@
 //! Crafted books: sound ones that no legal sequence of calls need have made.
 
 use crate::block::*;
+use crate::clause::cases;
 use crate::counts::{Position, Slot, LATEST_MINUTE, LONGEST_LEAD};
 use crate::names;
 use crate::random::Random;
-use crate::sound::{FEWEST_BLOCKS, MOST_BLOCKS};
+use crate::sound::{FEWEST_BLOCKS, MOST_BLOCKS, NS};
 
 /// How large a crafted book becomes.
 pub struct Shape {
@@ -62,7 +63,7 @@ pub fn sound_book(random: &mut Random, pool: &[Field], shape: &Shape) -> Vec<u8>
 fn day_block(random: &mut Random, pool: &[Field]) -> Block {
     let mut day = [0; BLOCK_BYTES];
     day[KIND] = KIND_DAY;
-    day[N] = random.pick(&[92u8, 96, 100]);
+    day[N] = random.pick(&NS);
     put_u16(&mut day, LEAD, lead(random));
     let clock = match random.below(5) {
         0 => 0,
@@ -159,11 +160,21 @@ fn placed(random: &mut Random, list: Vec<(usize, Block)>, senders: usize) -> Vec
     placed
 }
 
-/// Any mark within its ranges.
+/// Any mark within its ranges. Byte 104 is often such as the old layout takes too.
 pub fn lawful_mark(random: &mut Random, n: usize, series_slots: &[u16]) -> Mark {
     let partner = if random.percent(30) { 0 } else { random.pick(series_slots) };
     let first = random.between(0, n) as u16;
-    Mark { state: random.between(1, 3) as u8, first: Position(first), partner: Slot(partner) }
+    let differ = if random.percent(50) { random.between(1, 3) } else { some_count(random, n) };
+    Mark { differ: differ as u8, first: Position(first), partner: Slot(partner) }
+}
+
+/// A count of differing positions, often at an edge.
+fn some_count(random: &mut Random, n: usize) -> usize {
+    match random.below(3) {
+        0 => random.pick(&[0, 1, 4, n - 1]),
+        1 => n,
+        _ => random.between(0, n),
+    }
 }
 
 /// The same book with a sender's kept version set: its next filings reach the highest version soon.
@@ -184,9 +195,19 @@ fn version(random: &mut Random) -> u16 {
     }
 }
 
-/// A sound book with one mark or net made false (or another false one), its check put right.
+cases! {
+    /// What a mark says, and a net.
+    Kept {
+        Count,
+        First,
+        Partner,
+        Net,
+    }
+}
+
+/// A sound book with one mark or net made false in one thing (or false in another way), its check put right.
 /// Nothing if the book has no series.
-pub fn falsify(random: &mut Random, book: &[u8]) -> Option<Vec<u8>> {
+pub fn falsify(random: &mut Random, book: &[u8], what: Kept) -> Option<Vec<u8>> {
     let mut list: Vec<Block> = blocks(book).copied().collect();
     let n = usize::from(list[0][N]);
     let series = slots_of(&list, KIND_SERIES);
@@ -195,20 +216,25 @@ pub fn falsify(random: &mut Random, book: &[u8]) -> Option<Vec<u8>> {
         return None;
     }
     let slot = random.pick(&series);
-    match random.below(4) {
-        0 => list[slot][STATE] = 1 + (list[slot][STATE] + random.below(2) as u8) % 3,
-        1 => list[slot][FIRST] = random.between(0, n) as u8,
-        2 => {
+    match what {
+        Kept::Count => {
+            let kept = usize::from(list[slot][DIFFER]);
+            let next = random.pick(&[kept.saturating_sub(1), (kept + 1).min(n)]);
+            let count = if random.percent(65) { next } else { some_count(random, n) };
+            list[slot][DIFFER] = count as u8;
+        }
+        Kept::First => list[slot][FIRST] = random.between(0, n) as u8,
+        Kept::Partner => {
             let partner = if random.percent(20) { 0 } else { random.pick(&series) };
             put_u16(&mut list[slot], PARTNER, partner as u16);
         }
-        _ => {
+        Kept::Net => {
             let net = random.pick(&[0, 1, -1, HIGHEST_NET, -HIGHEST_NET]);
             let at = VALUES + 4 * random.below(n);
             put_u32(&mut list[random.pick(&senders)], at, net as u32);
         }
     }
-    Some(sealed(list))
+    Some(sealed(list)).filter(|other| other != book)
 }
 
 pub fn slots_of(list: &[Block], kind: u8) -> Vec<usize> {
@@ -232,8 +258,10 @@ mod tests {
             };
             let book = sound_book(&mut random, &pool, &shape);
             assert!(is_sound(&book));
-            if let Some(false_book) = falsify(&mut random, &book) {
-                assert!(is_sound(&false_book));
+            for &what in Kept::ALL {
+                if let Some(false_book) = falsify(&mut random, &book, what) {
+                    assert!(is_sound(&false_book));
+                }
             }
             let (_, late) = with_version(&book, HIGHEST_VERSION).expect("there is a sender");
             assert!(is_sound(&late));

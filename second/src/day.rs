@@ -4,7 +4,7 @@ use crate::block::*;
 use crate::book::SoundBook;
 use crate::counts::{Minute, LATEST_MINUTE, LONGEST_LEAD};
 use crate::identifier::wrong_character;
-use crate::sound::{is_day, length_is_right};
+use crate::sound::{is_day, length_is_right, NS};
 
 pub const NOT_SOUND: u8 = 1;
 pub const WRONG_LENGTH: u8 = 20;
@@ -31,7 +31,7 @@ pub fn open(book: &mut [u8], n: u8, lead: u16, day: &[u8], area: &[u8], receiver
         0 => wrong_character(receiver),
         of_area => of_area,
     };
-    let lawful = matches!(n, 92 | 96 | 100) && lead <= LONGEST_LEAD && is_day(day) && character == 0;
+    let lawful = NS.contains(&n) && lead <= LONGEST_LEAD && is_day(day) && character == 0;
     if !lawful {
         return (WRONG_PARAMETER, character);
     }

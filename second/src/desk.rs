@@ -4,6 +4,7 @@ use std::io::{self, Write};
 
 use crate::block::{self, Mark, BLOCK_BYTES};
 use crate::codes::reason_code;
+use crate::conversion::convert;
 use crate::counts::{Minute, Position};
 use crate::day::{self, DayState};
 use crate::identifier::{is_well_formed_id, wrong_character};
@@ -41,6 +42,7 @@ pub enum Reply {
     Seal(Vec<u8>),
     Code(u8),
     Judge(Verdict),
+    Convert(u8),
 }
 
 /// Bytes outside the buffer were to be set: the stream is malformed.
@@ -138,6 +140,7 @@ impl Desk {
             }
             Record::Code(number) => Reply::Code(reason_code(*number)),
             Record::Judge(message) => Reply::Judge(judge(&self.book, message)),
+            Record::Convert => Reply::Convert(convert(&mut self.book)),
         })
     }
 
@@ -160,7 +163,7 @@ impl Desk {
             }
             Reply::Submit(verdict) => write_verdict(out, "submit", verdict),
             Reply::Mark { number, mark } => {
-                writeln!(out, "mark {number} {} {} {}", mark.state, mark.first.0, mark.partner.0)
+                writeln!(out, "mark {number} {} {} {}", mark.differ, mark.first.0, mark.partner.0)
             }
             Reply::Block { block, .. } => with_hex(out, format_args!("block {}", block.len()), block),
             Reply::Final { number, value } => writeln!(out, "final {number} {value}"),
@@ -177,6 +180,7 @@ impl Desk {
             Reply::Seal(block) => with_hex(out, format_args!("seal"), block),
             Reply::Code(code) => writeln!(out, "code {code}"),
             Reply::Judge(verdict) => write_verdict(out, "judge", verdict),
+            Reply::Convert(number) => writeln!(out, "convert {number}"),
         }
     }
 }
@@ -232,6 +236,8 @@ mod tests {
         assert_eq!(line(&mut desk, Record::Clock(5)), "clock 1 0 0 0\n");
         assert_eq!(line(&mut desk, Record::Submit(vec![])), "submit 1 0 0 0 0\n");
         assert_eq!(line(&mut desk, Record::Judge(vec![])), "judge 1 0 0 0 0\n");
+        assert_eq!(line(&mut desk, Record::Convert), "convert 1\n");
+        assert_eq!(line(&mut desk, Record::Mark { sender: vec![], id: vec![] }), "mark 1 0 0 0\n");
         assert_eq!(line(&mut desk, Record::Listing), "listing 6e6f7420736f756e640a\n");
         assert_eq!(line(&mut desk, Record::Length(1_024)), "length 1024\n");
         let open = |area: &[u8], receiver: &[u8]| Record::Open {
@@ -250,6 +256,8 @@ mod tests {
         assert_eq!(line(&mut desk, Record::Eic(b"10YAT-APG------L".to_vec())), "eic 0\n");
         assert_eq!(line(&mut desk, Record::Eic(b"10YAT-APG".to_vec())), "eic 10\n");
         assert_eq!(line(&mut desk, Record::Plain), "plain 0 1\n");
+        assert_eq!(line(&mut desk, Record::Convert), "convert 0\n");
+        assert_eq!(line(&mut desk, Record::Mark { sender: vec![], id: vec![] }), "mark 23 0 0 0\n");
         assert_eq!(line(&mut desk, Record::Block { sender: vec![], id: vec![] }), "block 0\n");
         assert_eq!(line(&mut desk, Record::Reader { number: 1, message: vec![] }), "reader 0\n");
         assert_eq!(line(&mut desk, Record::Walk(vec![])), "walk 0 0\n");

@@ -6,6 +6,8 @@ use std::collections::HashMap;
 use crate::block::*;
 use crate::clause::cases;
 use crate::counts::{Minute, Position};
+use crate::deck::Deck;
+use crate::difference::{other_quantity, Difference};
 use crate::names;
 use crate::random::Random;
 use crate::stream::MOST_MESSAGE_BYTES;
@@ -32,6 +34,8 @@ pub struct Draft {
 pub enum New {
     UpTo(usize),
     Exactly(usize),
+    /// One for each trade that others filed and this sender has not answered.
+    Answering,
     /// Just so many that the book's free slots are all taken, plus this many too many.
     Filling(usize),
 }
@@ -96,7 +100,7 @@ impl Draft {
         let day = list.first().copied().unwrap_or(&nothing);
         let n = u16::from(day[N]).clamp(2, POSITIONS as u16);
         let (clock, lead) = (Minute(u16_at(day, CLOCK)), u16_at(day, LEAD));
-        let slot = (1..list.len()).find(|&slot| list[slot][KIND] == KIND_SENDER && field(list[slot], SENDER) == sender);
+        let slot = slot_of(&list, &sender);
         let mut draft = Draft {
             blocks: vec![head(random, day, &sender, slot.map(|slot| list[slot]), growth.version)],
             sender,
@@ -107,37 +111,35 @@ impl Draft {
             stored: Vec::new(),
             free_slots: list.iter().filter(|block| block[KIND] == 0).count(),
         };
-        let theirs = draft.take_stored(&list, slot);
+        draft.take_stored(&list, slot);
+        let theirs = filed_by_others(&list, slot, &sender);
         draft.change_stored(random, growth.changed, &theirs);
         let fewest = usize::from(draft.blocks.len() == 1);
         let new = match growth.new {
             New::UpTo(most) => random.between(fewest, most.max(fewest)),
             New::Exactly(number) => number,
+            New::Answering => theirs.keys().filter(|parties| !draft.has_pair(parties)).count(),
             New::Filling(more) => (draft.free_slots + more).saturating_sub(usize::from(slot.is_none())).max(fewest),
         };
-        draft.add_new(random, new, growth.side, partners, &theirs);
+        let answering = if growth.new == New::Answering { 100 } else { 80 };
+        draft.add_new(random, new, growth.side, partners, &theirs, answering);
         if random.percent(20) {
             random.shuffle(&mut draft.blocks[1..]);
         }
         draft
     }
 
-    /// Takes over the sender's stored series. Hands back what others filed about trades with it.
-    fn take_stored<'book>(&mut self, list: &[&'book Block], slot: Option<usize>) -> Filed<'book> {
-        let mut theirs = Filed::new();
+    /// Takes over the sender's stored series.
+    fn take_stored(&mut self, list: &[&Block], slot: Option<usize>) {
         for &block in list.iter().skip(1).filter(|block| block[KIND] == KIND_SERIES) {
-            let parties = pair(block);
             if slot == Some(usize::from(u16_at(block, SENDER_SLOT))) {
                 self.stored.push(field(block, ID));
                 // A book that is not sound may hold more of a sender than a record can carry.
                 if self.blocks.len() < MOST_MESSAGE_BYTES / BLOCK_BYTES {
                     self.blocks.push(*block);
                 }
-            } else if parties.0 == self.sender || parties.1 == self.sender {
-                theirs.insert(parties, block);
             }
         }
-        theirs
     }
 
     /// Makes stored series fit for a message, and changes so many of a hundred.
@@ -156,9 +158,17 @@ impl Draft {
         }
     }
 
-    /// Adds so many new series. Trades that others filed and this sender has not answered come first
-    /// to mind.
-    fn add_new(&mut self, random: &mut Random, new: usize, side: Option<Side>, partners: &[Field], theirs: &Filed) {
+    /// Adds so many new series. So many of a hundred answer trades that others filed and this sender has not
+    /// answered, as long as there are any.
+    fn add_new(
+        &mut self,
+        random: &mut Random,
+        new: usize,
+        side: Option<Side>,
+        partners: &[Field],
+        theirs: &Filed,
+        answering: usize,
+    ) {
         let mut unanswered: Vec<(Field, Field)> =
             theirs.keys().copied().filter(|parties| !self.has_pair(parties)).collect();
         unanswered.sort_unstable();
@@ -167,7 +177,7 @@ impl Draft {
                 self.add_at_limit(random, side, partners);
                 continue;
             }
-            let wanted = if !unanswered.is_empty() && random.percent(80) {
+            let wanted = if !unanswered.is_empty() && random.percent(answering) {
                 Some(unanswered.swap_remove(random.below(unanswered.len())))
             } else {
                 None
@@ -278,6 +288,31 @@ impl Draft {
         }
     }
 
+    /// Makes each series that has a counterpart in the book differ from it in a way that is next in turn, as far
+    /// as its closed quantities allow one. Of a draft none of whose stored series was changed before.
+    pub fn differ(&mut self, random: &mut Random, book: &[u8], ways: &mut Deck<Difference>) {
+        let list: Vec<&Block> = blocks(book).collect();
+        let theirs = filed_by_others(&list, slot_of(&list, &self.sender), &self.sender);
+        let (version, first_open, n) = (self.version(), self.first_open, self.n);
+        for series in self.blocks.iter_mut().skip(1) {
+            let (before, other) = match theirs.get(&pair(series)) {
+                None => continue,
+                Some(&other) => (*series, other),
+            };
+            let closed: Vec<u16> =
+                differing(series, other, n as u8).map(|position| position.0).filter(|&p| p < first_open).collect();
+            let dealt = ways.deal_serving(random, |random, way| way.made(random, n, first_open, &closed));
+            let positions = dealt.map_or(closed, |(_, positions)| positions);
+            agree(series, other, first_open, n);
+            for position in positions.into_iter().filter(|&p| p >= first_open).map(Position) {
+                put_quantity(series, position, other_quantity(random, quantity(other, position)));
+            }
+            if series[VALUES..CHECK] != before[VALUES..CHECK] {
+                put_u16(series, VERSION, version);
+            }
+        }
+    }
+
     /// The place of some series.
     pub fn any_place(&self, random: &mut Random) -> usize {
         random.between(1, self.blocks.len() - 1)
@@ -314,6 +349,24 @@ impl Draft {
         }
         message
     }
+}
+
+/// The slot of a sender in a book that need not be sound.
+fn slot_of(list: &[&Block], sender: &Field) -> Option<usize> {
+    (1..list.len()).find(|&slot| list[slot][KIND] == KIND_SENDER && field(list[slot], SENDER) == *sender)
+}
+
+/// What others filed about trades with a sender.
+fn filed_by_others<'book>(list: &[&'book Block], slot: Option<usize>, sender: &Field) -> Filed<'book> {
+    let mut theirs = Filed::new();
+    for &block in list.iter().skip(1).filter(|block| block[KIND] == KIND_SERIES) {
+        let parties = pair(block);
+        let own = slot == Some(usize::from(u16_at(block, SENDER_SLOT)));
+        if !own && (parties.0 == *sender || parties.1 == *sender) {
+            theirs.insert(parties, block);
+        }
+    }
+    theirs
 }
 
 fn numbered_id(random: &mut Random) -> Field {

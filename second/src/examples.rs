@@ -5,6 +5,7 @@ use std::fmt::Debug;
 
 use crate::block::*;
 use crate::codes::reason_code;
+use crate::conversion::convert;
 use crate::counts::{Minute, Position, Slot, DAY_START};
 use crate::day::{move_clock, open, DayState};
 use crate::identifier::{is_valid_eic, wrong_character, VALUES as CHARACTER_VALUES};
@@ -44,6 +45,11 @@ pub const EXAMPLES: &[Example] = &[
     ("the wrong character in an opening", wrong_characters_in_opening),
     ("the wrong character in a submission", wrong_characters_in_submission),
     ("judging", judging),
+    ("counts of differing positions", differing_positions),
+    ("a count in a sound book", counts_in_sound_books),
+    ("conversion", conversion),
+    ("conversions that are refused", refused_conversions),
+    ("a book converted in the midst of its day", converted_midway),
 ];
 
 fn same<T: PartialEq + Debug>(what: &str, found: T, expected: T) -> Outcome {
@@ -434,11 +440,11 @@ fn codes() -> Outcome {
 
 fn printed_listing() -> Outcome {
     let mut book = opened(8, 96, 45);
-    let header = "slot sender series in out state first partner\n";
+    let header = "slot sender series in out differ first partner\n";
     same("an empty book", String::from_utf8_lossy(&listing(&book)).as_ref(), header)?;
     let sold = message(SELLER, 1, 96, &[series("TS0001", BUYER, SELLER, 1, 96, 45_000)]);
     same("the seller files", answer(submit(&mut book, &sold)), ACCEPTED)?;
-    let unmatched = Mark { state: 1, first: Position(0), partner: Slot(0) };
+    let unmatched = Mark { differ: 0, first: Position(0), partner: Slot(0) };
     same("unmatched", mark_of(&book, SELLER, &name("TS0001")), (0, unmatched))?;
     let mut block = series("FPL01", BUYER, SELLER, 1, 96, 45_000);
     put_quantity(&mut block, Position(2), 44_000);
@@ -446,8 +452,8 @@ fn printed_listing() -> Outcome {
     same("the buyer files", answer(submit(&mut book, &bought)), ACCEPTED)?;
     let text = listing(&book);
     let expected = format!(
-        "{header}2 14XBILANZGR-1--F TS0001 14XBG-EMPFANG--0 14XBILANZGR-1--F 3 2 4\n\
-         4 14XBG-EMPFANG--0 FPL01 14XBG-EMPFANG--0 14XBILANZGR-1--F 3 2 2\n"
+        "{header}2 14XBILANZGR-1--F TS0001 14XBG-EMPFANG--0 14XBILANZGR-1--F 1 2 4\n\
+         4 14XBG-EMPFANG--0 FPL01 14XBG-EMPFANG--0 14XBILANZGR-1--F 1 2 2\n"
     );
     same("the lines", String::from_utf8_lossy(&text).as_ref(), expected.as_str())?;
     same("the plain run", plain_run(&book), (0, true))?;
@@ -459,7 +465,7 @@ fn printed_listing() -> Outcome {
     same("the buyer's net at 2", nets(block_at(&book, 3)).nth(1), Some(44_000))?;
     let found = plain_rule::matching(&[sold, bought]);
     let mark = found.marks[&(*SELLER, name("TS0001"))];
-    same("the plain rule", (mark.state, mark.first, mark.partner), (3, Position(2), Some((*BUYER, name("FPL01")))))?;
+    same("the plain rule", (mark.differ, mark.first, mark.partner), (1, Position(2), Some((*BUYER, name("FPL01")))))?;
     same("the plain net", found.nets[BUYER][1], 44_000)?;
 
     // The lengths the listing takes, and a book that is not sound.
@@ -556,6 +562,133 @@ fn judging() -> Outcome {
     same("judged when it is in", answer(judge(&book, &good)), (6, 51, 0, 0))?;
     book[9] ^= 1;
     same("not sound", answer(judge(&book, &good)), (1, 0, 0, 0))
+}
+
+/// The book of the listing, with these quantities of the buyer's in place of 45,000.
+fn book_of_two(n: u8, others: &[(u16, u32)]) -> Result<Vec<u8>, String> {
+    let mut book = opened(8, n, 45);
+    let sold = series("TS0001", BUYER, SELLER, 1, n, 45_000);
+    let mut bought = series("FPL01", BUYER, SELLER, 1, n, 45_000);
+    for &(position, value) in others {
+        put_quantity(&mut bought, Position(position), value);
+    }
+    same("the seller files", answer(submit(&mut book, &message(SELLER, 1, n, &[sold]))), ACCEPTED)?;
+    same("the buyer files", answer(submit(&mut book, &message(BUYER, 1, n, &[bought]))), ACCEPTED)?;
+    Ok(book)
+}
+
+/// Document 02, C-16: count, first and partner of the seller's series and of the buyer's.
+fn differing_positions() -> Outcome {
+    for n in [92u8, 96, 100] {
+        let last = u16::from(n);
+        let all: Vec<(u16, u32)> = (1..=last).map(|position| (position, 44_999)).collect();
+        let some = [(1, 0), (2, 45_001), (50, 1), (last, 44_999)];
+        let cases: [(&[(u16, u32)], u8, u16); 9] = [
+            (&[], 0, 0),
+            (&[(1, 0)], 1, 1),
+            (&[(last, 0)], 1, last),
+            (&some[1..3], 2, 2),
+            (&some[1..], 3, 2),
+            (&some, 4, 1),
+            (&all[3..], n - 3, 4),
+            (&all[1..], n - 1, 2),
+            (&all, n, 1),
+        ];
+        for (others, differ, first) in cases {
+            let mut book = book_of_two(n, others)?;
+            let mark = |partner| (0, Mark { differ, first: Position(first), partner: Slot(partner) });
+            same("the seller's mark", mark_of(&book, SELLER, &name("TS0001")), mark(4))?;
+            same("the buyer's mark", mark_of(&book, BUYER, &name("FPL01")), mark(2))?;
+            same("the plain run", plain_run(&book), (0, true))?;
+            let agreeing = message(BUYER, 2, n, &[series("FPL01", BUYER, SELLER, 2, n, 45_000)]);
+            if differ > 0 {
+                same("the buyer agrees", answer(submit(&mut book, &agreeing)), ACCEPTED)?;
+                let agreed = (0, Mark { partner: Slot(4), ..Mark::ALONE });
+                same("the seller's mark then", mark_of(&book, SELLER, &name("TS0001")), agreed)?;
+            }
+        }
+    }
+    Ok(())
+}
+
+/// Byte 104 of a series, its check put right.
+fn with_byte_104(book: &[u8], slot: usize, byte: u8) -> Vec<u8> {
+    let mut other = book.to_vec();
+    block_at_mut(&mut other, slot)[104] = byte;
+    seal(block_at_mut(&mut other, slot));
+    other
+}
+
+fn counts_in_sound_books() -> Outcome {
+    for n in [92u8, 96, 100] {
+        let book = book_of_two(n, &[(2, 44_000)])?;
+        for byte in 0..=255 {
+            let other = with_byte_104(&book, 4, byte);
+            same(&format!("a count of {byte} with n {n}"), is_sound(&other), byte <= n)?;
+            same("the plain run", plain_run(&other), if byte > n { (1, false) } else { (0, byte == 1) })?;
+        }
+    }
+    Ok(())
+}
+
+/// The listing's book as it was kept before C-16.
+fn old_book_of_two() -> Result<Vec<u8>, String> {
+    let book = book_of_two(96, &[(2, 44_000)])?;
+    Ok(with_byte_104(&with_byte_104(&book, 2, 3), 4, 3))
+}
+
+fn conversion() -> Outcome {
+    let (new, old) = (book_of_two(96, &[(2, 44_000)])?, old_book_of_two()?);
+    same("the plain run warns", plain_run(&old), (0, false))?;
+    let mut book = old.clone();
+    same("the old book", (convert(&mut book), book == new), (0, true))?;
+    // Whatever the old marks and nets said.
+    let mut wrong = with_byte_104(&with_byte_104(&old, 2, 1), 4, 2);
+    put_mark(block_at_mut(&mut wrong, 2), Mark { differ: 2, first: Position(96), partner: Slot(2) });
+    put_mark(block_at_mut(&mut wrong, 4), Mark { differ: 1, first: Position(0), partner: Slot(0) });
+    for slot in [1, 3] {
+        put_nets(block_at_mut(&mut wrong, slot), &[0; POSITIONS]);
+    }
+    (1..=4).for_each(|slot| seal(block_at_mut(&mut wrong, slot)));
+    same("a false old book", (convert(&mut wrong), wrong == new), (0, true))?;
+    let empty = opened(2, 92, 0);
+    let mut book = empty.clone();
+    same("a book without series", (convert(&mut book), book == empty), (0, true))
+}
+
+fn refused_conversions() -> Outcome {
+    let old = old_book_of_two()?;
+    for byte in (0..=255).filter(|byte| !(1..=3).contains(byte)) {
+        for slot in [2, 4] {
+            let other = with_byte_104(&old, slot, byte);
+            let mut book = other.clone();
+            same(&format!("state {byte}"), (convert(&mut book), book == other), (1, true))?;
+        }
+    }
+    let mut damaged = old.clone();
+    damaged[9] ^= 1;
+    let mut book = damaged.clone();
+    same("a changed byte", (convert(&mut book), book == damaged), (1, true))?;
+    same("no book", convert(&mut []), 1)
+}
+
+/// Old and new cannot be told apart: a new book passes where each of its counts is 1 to 3.
+fn converted_midway() -> Outcome {
+    let differing = [(1, 1), (2, 1), (3, 1), (4, 1)];
+    for (count, expected) in [(0, 1), (1, 0), (2, 0), (3, 0), (4, 1)] {
+        let book = book_of_two(96, &differing[..count])?;
+        let mut converted = book.clone();
+        same(&format!("counts of {count}"), (convert(&mut converted), converted == book), (expected, true))?;
+    }
+    // An old book that takes a message first is old no longer.
+    let mut used = old_book_of_two()?;
+    let agreeing = message(BUYER, 2, 96, &[series("FPL01", BUYER, SELLER, 2, 96, 45_000)]);
+    same("a message", answer(submit(&mut used, &agreeing)), ACCEPTED)?;
+    same("then the conversion", convert(&mut used), 1)?;
+    let mut late = old_book_of_two()?;
+    same("the conversion", convert(&mut late), 0)?;
+    same("then the message", answer(submit(&mut late, &agreeing)), ACCEPTED)?;
+    same("the marks", plain_run(&late), (0, true))
 }
 
 #[cfg(test)]

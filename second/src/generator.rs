@@ -10,20 +10,53 @@ use std::io::{self, Write};
 
 use crate::block::*;
 use crate::breach::Breach;
+use crate::crafted::Kept;
 use crate::deck::Deck;
 use crate::desk::Desk;
-use crate::draft::{FormFault, Side, WrongCode};
+use crate::difference::Difference;
+use crate::draft::{Fault, FormFault, Side, WrongCode};
 use crate::identifier::LAST_CHARACTER;
 use crate::names;
 use crate::random::Random;
+use crate::sound::NS;
 use crate::stream::{records_between, Record};
 use crate::versions::VersionTurn;
 
 mod calls;
+mod conversions;
 mod episodes;
 mod messages;
 
+use conversions::{ConversionTurn, Use};
 use episodes::WrongOpening;
+
+/// What is known of the book on which a call is made.
+#[derive(Clone, Copy, Debug, PartialEq, Eq)]
+pub enum Standing {
+    /// It is as the calls before left it, or damaged in some way.
+    Usual,
+    /// It is of the old layout, up to its conversion.
+    Old,
+    /// It breaks just one clause of soundness, in this way.
+    Broken(Breach),
+}
+
+/// The records to come.
+struct Queue {
+    records: VecDeque<(Record, Standing)>,
+    /// What is known of the book on which the next records that are put in will be made.
+    standing: Standing,
+}
+
+impl Queue {
+    fn push_back(&mut self, record: Record) {
+        self.records.push_back((record, self.standing));
+    }
+
+    fn pop_front(&mut self) -> Option<(Record, Standing)> {
+        self.records.pop_front()
+    }
+}
 
 /// What an episode is about, and how large its books are.
 #[derive(Clone, Copy, PartialEq, Eq)]
@@ -36,12 +69,14 @@ enum Episode {
     Full,
     /// One sender whose nets reach their limit on this side.
     Limit(Side),
-    /// One sender whose filings reach version 999 one by one, and what it files then.
+    /// One sender whose filings reach version 999, the last ones one by one, and what it files then.
     Climb,
+    /// Two senders that answer each other's trades, with conversions between.
+    Two,
 }
 
 /// The episodes of one round. A stream of the comparison holds about one.
-const EPISODES: [(Episode, usize); 7] = [
+const EPISODES: [(Episode, usize); 8] = [
     (Episode::Small, 34),
     (Episode::Middling, 9),
     (Episode::Long, 2),
@@ -49,14 +84,40 @@ const EPISODES: [(Episode, usize); 7] = [
     (Episode::Limit(Side::Buys), 1),
     (Episode::Limit(Side::Sells), 1),
     (Episode::Climb, 2),
+    (Episode::Two, 4),
 ];
 
-/// A stream with a seed that this number divides begins with all filings of one sender from version
-/// 1 to 999. They are many, so not every stream can have them.
+/// A stream with a seed that this number divides begins with the filings of one sender from version 1 to
+/// 999. They are many, so not every stream can have them.
 const WHOLE_CLIMB: u64 = 5;
 
 /// How often a climber files after version 999, in vain.
 const BEYOND_CLIMB: usize = 4;
+
+/// Some faults find what they need only now and then, or are often hidden by others, so they come more often.
+const RARE_FAULTS: [Fault; 18] = [
+    Fault::Receiver,
+    Fault::OtherMessageId,
+    Fault::SeriesId,
+    Fault::IdTwice,
+    Fault::IdOtherPair,
+    Fault::IdOtherPair,
+    Fault::PairTwice,
+    Fault::PairRenamed,
+    Fault::OutParty,
+    Fault::EqualParties,
+    Fault::Strangers,
+    Fault::AboveN,
+    Fault::ClosedChanged,
+    Fault::ClosedNew,
+    Fault::SeriesVersionKept,
+    Fault::Absent,
+    Fault::Absent,
+    Fault::Absent,
+];
+
+/// The last clauses of rule 2, which every other fault of form hides.
+const HIDDEN_FORMS: [FormFault; 3] = [FormFault::SeriesSenderSlot, FormFault::SeriesMark, FormFault::SeriesN];
 
 /// Whose code is to be wrong, and how often in one round: rule 4 is broken by one code and rule 8 by
 /// either of two, or by both, so the sender's comes three times.
@@ -67,6 +128,19 @@ const WRONG_CODES: [WrongCode; 6] = [
     WrongCode::InParty,
     WrongCode::OutParty,
     WrongCode::BothParties,
+];
+
+/// In which ways two senders differ that answer each other, so that a conversion often passes and often does not.
+const SMALL_WAYS_TO_DIFFER: [Difference; 9] = [
+    Difference::Nowhere,
+    Difference::First,
+    Difference::Last,
+    Difference::Between,
+    Difference::Two,
+    Difference::Two,
+    Difference::Three,
+    Difference::Three,
+    Difference::Four,
 ];
 
 /// A book to be put back after some calls on a damaged one.
@@ -85,17 +159,29 @@ struct Climber {
 pub struct Generator {
     random: Random,
     pool: Vec<Field>,
-    queue: VecDeque<Record>,
+    queue: Queue,
     episodes: Deck<Episode>,
     breaches: Deck<Breach>,
     /// The lower of two rules, next to each other, that one message is to break.
     neighbours: Deck<u8>,
     forms: Deck<FormFault>,
+    faults: Deck<Fault>,
     /// Whose code is to be wrong, and at which character.
     wrong_codes: Deck<(WrongCode, u8)>,
     wrong_openings: Deck<(WrongOpening, u8)>,
     wrong_texts: Deck<u8>,
     versions: Deck<VersionTurn>,
+    conversions: Deck<ConversionTurn>,
+    /// What is done with an old book before its conversion, and with the new one after it.
+    old_uses: Deck<Use>,
+    new_uses: Deck<Use>,
+    /// In which ways a series is to differ from its counterpart, for each n.
+    ways_to_differ: [Deck<Difference>; 3],
+    small_ways_to_differ: Deck<Difference>,
+    /// The n of the books that are opened.
+    ns: Deck<u8>,
+    /// What is to be false alone.
+    kept: Deck<Kept>,
     /// Numbers whose code is asked for.
     numbers: Deck<u8>,
     episode: Episode,
@@ -105,9 +191,12 @@ pub struct Generator {
     left: usize,
     /// Large lawful messages still to come at the beginning of an episode.
     large_messages: usize,
+    /// Messages still to come of two senders that answer each other.
+    steps_of_two: usize,
     climber: Option<Climber>,
     repair: Option<Repair>,
-    breach: Option<Breach>,
+    /// Of the last record.
+    standing: Standing,
 }
 
 /// The EICs the paper prints.
@@ -135,41 +224,51 @@ impl Generator {
         Generator {
             random,
             pool,
-            queue: VecDeque::new(),
+            queue: Queue { records: VecDeque::new(), standing: Standing::Usual },
             episodes: Deck::of(&round),
             breaches: Deck::of(Breach::ALL),
             neighbours: Deck::of(&(3..=16).collect::<Vec<u8>>()),
-            forms: Deck::of(FormFault::ALL),
+            forms: Deck::of(&[FormFault::ALL, &HIDDEN_FORMS].concat()),
+            faults: Deck::of(&[Fault::ALL, &RARE_FAULTS].concat()),
             wrong_codes: Deck::of(&at_each_character(&WRONG_CODES)),
             wrong_openings: Deck::of(&at_each_character(WrongOpening::ALL)),
             wrong_texts: Deck::of(&(1..=LAST_CHARACTER).collect::<Vec<u8>>()),
             versions: Deck::of(&VersionTurn::all()),
+            conversions: Deck::of(&ConversionTurn::all()),
+            old_uses: Deck::of(&Use::ALL[..Use::ALL.len() - 1]),
+            new_uses: Deck::of(Use::ALL),
+            ways_to_differ: NS.map(|_| Deck::of(Difference::ALL)),
+            ns: Deck::of(&NS),
+            small_ways_to_differ: Deck::of(&SMALL_WAYS_TO_DIFFER),
+            kept: Deck::of(Kept::ALL),
             numbers: Deck::of(&(0..=35).collect::<Vec<u8>>()),
             episode: Episode::Small,
             whole_climb: seed % WHOLE_CLIMB == 0,
             partners: Vec::new(),
             left: 0,
             large_messages: 0,
+            steps_of_two: 0,
             climber: None,
             repair: None,
-            breach: None,
+            standing: Standing::Usual,
         }
     }
 
     /// The next record, given the book as all records before left it.
     pub fn next(&mut self, book: &[u8]) -> Record {
         loop {
-            if let Some(record) = self.queue.pop_front() {
+            if let Some((record, standing)) = self.queue.pop_front() {
+                self.standing = standing;
                 return record;
             }
-            self.breach = None;
+            self.queue.standing = Standing::Usual;
             self.plan(book);
         }
     }
 
-    /// In which way the book is broken on which the last record was made, where just one clause is.
-    pub fn breach(&self) -> Option<Breach> {
-        self.breach
+    /// What is known of the book on which the last record was made.
+    pub fn standing(&self) -> Standing {
+        self.standing
     }
 
     fn plan(&mut self, book: &[u8]) {
@@ -188,6 +287,9 @@ impl Generator {
         if self.large_messages > 0 {
             self.large_messages -= 1;
             self.large_message(book);
+        } else if self.steps_of_two > 0 {
+            self.steps_of_two -= 1;
+            self.step_of_two(book);
         } else if self.climber.is_none() {
             self.action(book);
         } else if self.random.percent(97) {
@@ -198,7 +300,7 @@ impl Generator {
     }
 
     fn action(&mut self, book: &[u8]) {
-        match self.random.weighted(&[51, 8, 8, 5, 12, 4, 6, 3, 3, 20, 3, 2, 9, 2, 9, 6]) {
+        match self.random.weighted(&[76, 12, 8, 7, 16, 4, 8, 4, 4, 30, 6, 4, 35, 4, 18, 12, 10, 9, 4]) {
             0 => self.submission(book),
             1 => self.clock(book),
             2 => self.mark_or_block(book, true),
@@ -214,12 +316,15 @@ impl Generator {
             12 => self.broken_book(book),
             13 => self.listing_at_edge(book),
             14 => self.wrong_code(book),
-            _ => self.version(book),
+            15 => self.version(book),
+            16 => self.conversion(book),
+            17 => self.differences(book),
+            _ => self.false_book(book),
         }
     }
 
     fn set_book(&mut self, from: &[u8], to: &[u8]) {
-        self.queue.extend(records_between(from, to));
+        records_between(from, to).into_iter().for_each(|record| self.queue.push_back(record));
     }
 }
 
@@ -324,7 +429,7 @@ mod tests {
 
     #[test]
     fn calls_left_out_leave_their_changes_behind() {
-        let left_out = ["open", "submit", "sound"];
+        let left_out = ["open", "submit", "sound", "convert"];
         let (mut whole, mut less) = (Vec::new(), Vec::new());
         write_stream(9, 4_000, &[], &mut whole).unwrap();
         write_stream(9, 1_000, &left_out, &mut less).unwrap();

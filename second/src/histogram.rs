@@ -5,9 +5,12 @@ use std::fmt;
 use crate::block::*;
 use crate::breach::Breach;
 use crate::desk::Reply;
+use crate::difference::Difference;
+use crate::generator::Standing;
 use crate::message::{self, MessageClause};
-use crate::sights::{sights, Sight};
-use crate::sound::{self, SoundClause};
+use crate::old_book::BadState;
+use crate::sights::{marks, sights, Sight};
+use crate::sound::{self, Layout, SoundClause, NS};
 use crate::stream::Record;
 use crate::submission::{Broken, Verdict};
 use crate::versions::{kept_version, VersionCase};
@@ -24,6 +27,7 @@ const ANSWERS: &[(&str, &[u8])] = &[
     ("read", &[0, 30, 31]),
     ("print", &[0, 30, 32]),
     ("judge", &[0, 1, 2, 3, 4, 5, 6, 7, 8, 9, 10, 11, 12, 13, 14, 15, 16, 17]),
+    ("convert", &[0, 1]),
 ];
 
 /// Where a wrong character is told, and which ones can be.
@@ -38,6 +42,18 @@ const CHARACTERS: &[(&str, &[u8])] = &[
 
 /// The calls that judge a version.
 const JUDGING: [&str; 2] = ["submit", "judge"];
+
+/// Whether the book was converted, and used since.
+#[derive(Clone, Copy, PartialEq, Eq)]
+enum Past {
+    NotConverted,
+    /// It is an old book that took a message before its conversion.
+    UsedBefore,
+    /// Nothing was accepted since, and this was the last call that may change it.
+    JustConverted,
+    /// Nothing was accepted since.
+    Converted,
+}
 
 /// A count for each number of each row.
 fn zeros(rows: &[(&str, &[u8])]) -> Vec<Vec<u64>> {
@@ -58,11 +74,17 @@ pub struct Histogram {
     message: Vec<u64>,
     broken: Vec<u64>,
     breaches: Vec<u64>,
+    /// The same, of conversions that fail by the breach alone.
+    old_breaches: Vec<u64>,
+    bad_states: Vec<u64>,
+    /// For each n the ways in which a series of an accepted message differs from its counterpart.
+    differences: [Vec<u64>; 3],
     sights: Vec<u64>,
     /// For each of the calls that judge a version.
     versions: [Vec<u64>; 2],
     /// Sender and version of the message that was refused last.
     refused: Option<(Field, u16)>,
+    past: Past,
 }
 
 impl Default for Histogram {
@@ -74,9 +96,13 @@ impl Default for Histogram {
             message: vec![0; MessageClause::ALL.len()],
             broken: vec![0; Broken::ALL.len()],
             breaches: vec![0; Breach::ALL.len()],
+            old_breaches: vec![0; Breach::ALL.len()],
+            bad_states: vec![0; BadState::ALL.len()],
+            differences: NS.map(|_| vec![0; Difference::ALL.len()]),
             sights: vec![0; Sight::ALL.len()],
             versions: [vec![0; VersionCase::ALL.len()], vec![0; VersionCase::ALL.len()]],
             refused: None,
+            past: Past::NotConverted,
         }
     }
 }
@@ -86,15 +112,17 @@ impl Histogram {
         Histogram::default()
     }
 
-    /// Counts one record, with the book before it and after it, which a refusal has left alone; the breach
-    /// is the way in which it is broken, where just one clause is.
-    pub fn count(&mut self, record: &Record, reply: &Reply, before: &[u8], book: &[u8], breach: Option<Breach>) {
-        for sight in sights(record, reply, before, book) {
-            self.sights[sight as usize] += 1;
-        }
-        if let (true, Some(breach)) = (record.asks_for_soundness(), breach) {
+    /// Counts one record, with the book before it and after it, which a refusal has left alone, and what is
+    /// known of the book.
+    pub fn count(&mut self, record: &Record, reply: &Reply, before: &[u8], book: &[u8], standing: Standing) {
+        sights(record, reply, before, book).into_iter().for_each(|sight| self.saw(sight));
+        if let (true, Standing::Broken(breach)) = (record.asks_for_soundness(), standing) {
             self.breaches[breach as usize] += 1;
         }
+        if record.asks_for_soundness() && marks::keeps_count_of_n(before) && sound::is_sound(before) {
+            self.saw(Sight::CountOfN);
+        }
+        self.conversion(record, reply, before, book, standing);
         match reply {
             Reply::Open { number, character } => {
                 self.answer("open", *number, book);
@@ -108,8 +136,9 @@ impl Histogram {
                 if let Record::Submit(submitted) = record {
                     self.version(0, verdict, submitted, before);
                     self.raised_after_refusal(verdict, submitted, before);
-                    if let Some(broken) = verdict.broken {
-                        self.refusal(broken, submitted);
+                    match verdict.broken {
+                        Some(broken) => self.refusal(broken, submitted),
+                        None => self.differences(submitted, book),
                     }
                 }
             }
@@ -125,10 +154,64 @@ impl Histogram {
                     self.version(1, verdict, judged, book);
                 }
             }
+            Reply::Convert(number) => tally(ANSWERS, &mut self.answers, "convert", *number),
             Reply::Eic(character) => self.character("eic", *character),
             Reply::Sound(false) => self.unsound(book),
             Reply::Listing(text) if text == b"not sound\n" => self.unsound(book),
             _ => {}
+        }
+    }
+
+    fn saw(&mut self, sight: Sight) {
+        self.sights[sight as usize] += 1;
+    }
+
+    /// Counts what a conversion rests on, and what is done with the book before it and after it.
+    fn conversion(&mut self, record: &Record, reply: &Reply, before: &[u8], book: &[u8], standing: Standing) {
+        if let Reply::Convert(number) = reply {
+            self.converted(*number, before, book, standing);
+            return;
+        }
+        let (on_old, on_new) = use_of(reply, before != book);
+        let old = standing == Standing::Old;
+        let new = matches!(self.past, Past::JustConverted | Past::Converted);
+        on_old.filter(|_| old).into_iter().for_each(|sight| self.saw(sight));
+        on_new.filter(|_| new).into_iter().for_each(|sight| self.saw(sight));
+        self.past = match (reply, self.past) {
+            (Reply::Length(_) | Reply::Bytes { .. } | Reply::Open { number: 0, .. }, _) => Past::NotConverted,
+            (Reply::Submit(verdict), _) if verdict.broken.is_none() && old => Past::UsedBefore,
+            (Reply::Submit(verdict), _) if verdict.broken.is_none() => Past::NotConverted,
+            (_, Past::JustConverted) if record.is_call() => Past::Converted,
+            (_, past) => past,
+        };
+    }
+
+    fn converted(&mut self, number: u8, before: &[u8], book: &[u8], standing: Standing) {
+        if number == 1 {
+            marks::bad_states(before).into_iter().for_each(|bad| self.bad_states[bad as usize] += 1);
+        }
+        match (number, standing, self.past) {
+            (1, Standing::Broken(breach), _) => {
+                let set = sound::broken_clauses(before, Layout::Old);
+                if set & !breach.companions() == breach.clause().bit() {
+                    self.old_breaches[breach as usize] += 1;
+                }
+            }
+            (1, Standing::Old, Past::UsedBefore) => self.saw(Sight::ConvertTooLate),
+            (1, _, Past::JustConverted) => self.saw(Sight::ConvertAgainRefused),
+            (0, _, Past::JustConverted) => self.saw(Sight::ConvertedAgain),
+            (1, Standing::Usual, _) => marks::new_layout_refused(before).into_iter().for_each(|sight| self.saw(sight)),
+            _ => {}
+        }
+        if number == 0 && before != book {
+            self.past = Past::JustConverted;
+        }
+    }
+
+    fn differences(&mut self, message: &[u8], book: &[u8]) {
+        let place = NS.iter().position(|&n| n == book[N]).expect("a sound book has one of them");
+        for way in marks::differences(message, book) {
+            self.differences[place][way as usize] += 1;
         }
     }
 
@@ -178,13 +261,13 @@ impl Histogram {
             let (sender, version) = sender_and_version(message);
             let between = kept_version(before, &sender).unwrap_or(0) + 1..version;
             if self.refused.take().map_or(false, |(other, refused)| other == sender && between.contains(&refused)) {
-                self.sights[Sight::RaisedAfterRefusal as usize] += 1;
+                self.saw(Sight::RaisedAfterRefusal);
             }
         }
     }
 
     fn unsound(&mut self, book: &[u8]) {
-        let clause = sound::first_broken(book).expect("the book was found not sound");
+        let clause = sound::first_broken(book, Layout::New).expect("the book was found not sound");
         self.sound[clause as usize] += 1;
     }
 
@@ -213,6 +296,17 @@ impl Histogram {
         for (breach, &count) in Breach::ALL.iter().zip(&self.breaches) {
             rows.push((format!("broken alone: {}", breach.text()), count));
         }
+        for (breach, &count) in Breach::ALL.iter().zip(&self.old_breaches) {
+            rows.push((format!("conversion, broken alone: {}", breach.text()), count));
+        }
+        for (bad, &count) in BadState::ALL.iter().zip(&self.bad_states) {
+            rows.push((format!("conversion, nothing wrong but states: {}", bad.text()), count));
+        }
+        for (n, counts) in NS.iter().zip(&self.differences) {
+            for (way, &count) in Difference::ALL.iter().zip(counts) {
+                rows.push((format!("accepted, n {n}, a series differs {}", way.text()), count));
+            }
+        }
         for (call, counts) in JUDGING.iter().zip(&self.versions) {
             for (case, &count) in VersionCase::ALL.iter().zip(counts) {
                 rows.push((format!("{call}, version: {}", case.text()), count));
@@ -222,6 +316,24 @@ impl Histogram {
             rows.push((format!("seen: {}", sight.text()), count));
         }
         rows
+    }
+}
+
+/// What a reply shows that is not refused: on an old book before its conversion, and after a conversion.
+fn use_of(reply: &Reply, changed: bool) -> (Option<Sight>, Option<Sight>) {
+    use Sight::*;
+    let both = |on_old, on_new| (Some(on_old), Some(on_new));
+    match reply {
+        Reply::Submit(verdict) if verdict.broken.is_none() => both(OldAccepted, NewAccepted),
+        Reply::Judge(verdict) if verdict.broken.is_none() => both(OldJudged, NewJudged),
+        Reply::Mark { number: 0, .. } => both(OldMark, NewMark),
+        Reply::Block { number: 0, .. } => both(OldBlock, NewBlock),
+        Reply::Final { number: 0, .. } => both(OldFinal, NewFinal),
+        Reply::Listing(text) if text.starts_with(b"slot") => both(OldListing, NewListing),
+        Reply::Clock { number: 0, .. } if changed => both(OldClock, NewClock),
+        Reply::Plain { number: 0, yes: false } => (Some(OldPlainNo), None),
+        Reply::Plain { number: 0, yes: true } => (None, Some(NewPlainYes)),
+        _ => (None, None),
     }
 }
 

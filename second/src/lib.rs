@@ -2,13 +2,14 @@
 //! can be compared with those of the proved program.
 //!
 //! The first group of modules is the paper: blocks, EICs and ids, quantity text, sound books,
-//! opening and clock, messages, submission, readings, listing. `plain_rule` is the matching rule
+//! opening and clock, messages, submission, readings, conversion, listing. `plain_rule` is the matching rule
 //! for checking. The rest makes random calls, replays them and counts what decided.
 
 pub mod block;
 pub mod book;
 mod clause;
 pub mod codes;
+pub mod conversion;
 pub mod counts;
 pub mod day;
 pub mod identifier;
@@ -24,11 +25,13 @@ pub mod breach;
 pub mod crafted;
 pub mod deck;
 pub mod desk;
+pub mod difference;
 pub mod draft;
 pub mod examples;
 pub mod generator;
 pub mod histogram;
 pub mod names;
+pub mod old_book;
 pub mod random;
 pub mod selfcheck;
 pub mod sights;

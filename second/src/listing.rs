@@ -17,7 +17,7 @@ pub fn listing(book: &[u8]) -> Vec<u8> {
         None => return b"not sound\n".to_vec(),
         Some(sound) => sound,
     };
-    let mut text = b"slot sender series in out state first partner\n".to_vec();
+    let mut text = b"slot sender series in out differ first partner\n".to_vec();
     for (slot, block) in sound.series() {
         let kept = mark(block);
         text.extend_from_slice(format!("{} ", slot.0).as_bytes());
@@ -25,7 +25,7 @@ pub fn listing(book: &[u8]) -> Vec<u8> {
             text.extend_from_slice(id_text(name));
             text.push(b' ');
         }
-        text.extend_from_slice(format!("{} {} {}\n", kept.state, kept.first.0, kept.partner.0).as_bytes());
+        text.extend_from_slice(format!("{} {} {}\n", kept.differ, kept.first.0, kept.partner.0).as_bytes());
     }
     text
 }

@@ -8,7 +8,7 @@ use second::generator::{write_stream, Generator};
 use second::histogram::Histogram;
 use second::listing;
 use second::selfcheck;
-use second::stream::{Record, Stop, CALL_WORDS};
+use second::stream::{Record, Stop, CALLS};
 
 const USAGE: &str = "usage:
   second generate  [--seed S] [--calls N]   a stream of N calls on standard output
@@ -99,9 +99,9 @@ impl Options {
 
 /// Words of calls with commas between. Some call must be left.
 fn words_of(list: &str) -> Option<Vec<&'static str>> {
-    let known = |word| CALL_WORDS.iter().copied().find(|&known| known == word);
+    let known = |word| CALLS.iter().map(|&(_, known)| known).find(|&known| known == word);
     let words: Vec<&str> = list.split(',').map(known).collect::<Option<_>>()?;
-    CALL_WORDS.iter().any(|word| !words.contains(word)).then_some(words)
+    CALLS.iter().any(|(_, word)| !words.contains(word)).then_some(words)
 }
 
 fn generate(seed: u64, calls: u64, without: &[&str]) -> io::Result<()> {
@@ -172,7 +172,7 @@ fn histogram(seed: u64, calls: u64, streams: u64, fewest: u64) -> bool {
             let before = desk.book().to_vec();
             let reply = desk.answer(&record).expect("the generator keeps within the buffer");
             made += u64::from(record.is_call());
-            histogram.count(&record, &reply, &before, desk.book(), generator.breach());
+            histogram.count(&record, &reply, &before, desk.book(), generator.standing());
         }
     }
     print!("{histogram}");

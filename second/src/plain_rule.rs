@@ -12,7 +12,7 @@ pub type SeriesName = (Field, Field);
 /// A mark whose partner is named as a series, not by a slot: slots are the book's affair.
 #[derive(Clone, Copy, Debug, PartialEq, Eq)]
 pub struct PlainMark {
-    pub state: u8,
+    pub differ: u8,
     pub first: Position,
     pub partner: Option<SeriesName>,
 }
@@ -74,15 +74,14 @@ pub fn matching(accepted: &[impl AsRef<[u8]>]) -> Matching {
             }
             let other = if buys { out_party } else { in_party };
             let mark = match filed.get(&(other, in_party, out_party)) {
-                None => PlainMark { state: 1, first: Position(0), partner: None },
+                None => PlainMark { differ: 0, first: Position(0), partner: None },
                 Some(theirs) => {
-                    let partner = Some((other, field(theirs, ID)));
-                    let differing = (1..=u16::from(n))
-                        .map(Position)
-                        .find(|&position| quantity(series, position) != quantity(theirs, position));
-                    match differing {
-                        None => PlainMark { state: 2, first: Position(0), partner },
-                        Some(first) => PlainMark { state: 3, first, partner },
+                    let differs = |p: &Position| quantity(series, *p) != quantity(theirs, *p);
+                    let positions: Vec<Position> = (1..=u16::from(n)).map(Position).filter(differs).collect();
+                    PlainMark {
+                        differ: positions.len() as u8,
+                        first: positions.first().copied().unwrap_or(Position(0)),
+                        partner: Some((other, field(theirs, ID))),
                     }
                 }
             };

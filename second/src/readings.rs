@@ -15,7 +15,7 @@ pub const UNKNOWN_PAIR: u8 = 26;
 /// The mark kept for a sender's series; number and zeros if refused. A sender or id that is
 /// unknown, malformed or of another length is simply not found.
 pub fn mark_of(book: &[u8], sender: &[u8], id: &[u8]) -> (u8, Mark) {
-    let zeros = Mark { state: 0, first: Position(0), partner: Slot(0) };
+    let zeros = Mark { differ: 0, first: Position(0), partner: Slot(0) };
     match SoundBook::of(book).map(|sound| sound.find_series(sender, id)) {
         None => (NOT_SOUND, zeros),
         Some(None) => (UNKNOWN_SERIES, zeros),
@@ -72,36 +72,40 @@ pub fn plain_run(book: &[u8]) -> (u8, bool) {
 }
 
 fn marks_are_true(book: &SoundBook) -> bool {
+    plain_marks(book).into_iter().all(|(slot, truth)| mark(book.block(slot)) == truth)
+}
+
+fn nets_are_true(book: &SoundBook) -> bool {
+    plain_nets(book).into_iter().all(|(slot, truth)| nets(book.block(slot)).eq(truth))
+}
+
+/// The mark of every series by the plain rule, whatever the book keeps.
+pub fn plain_marks(book: &SoundBook) -> Vec<(Slot, Mark)> {
     let mut slots: HashMap<(Field, (Field, Field)), Slot> = HashMap::new();
     for (slot, block) in book.series() {
         slots.insert((book.owner(block), pair(block)), slot);
     }
-    book.series().all(|(_, block)| {
+    let of_series = |block: &Block| {
         let (in_party, out_party) = pair(block);
         let other = if book.owner(block) == in_party { out_party } else { in_party };
-        let truth = match slots.get(&(other, (in_party, out_party))) {
-            None => Mark { state: 1, first: Position(0), partner: Slot(0) },
-            Some(&partner) => match first_difference(block, book.block(partner), book.n()) {
-                None => Mark { state: 2, first: Position(0), partner },
-                Some(first) => Mark { state: 3, first, partner },
-            },
-        };
-        mark(block) == truth
-    })
+        match slots.get(&(other, (in_party, out_party))) {
+            None => Mark::ALONE,
+            Some(&partner) => Mark::between(block, book.block(partner), book.n(), partner),
+        }
+    };
+    book.series().map(|(slot, block)| (slot, of_series(block))).collect()
 }
 
-fn nets_are_true(book: &SoundBook) -> bool {
-    let mut sums: HashMap<Slot, [i64; POSITIONS]> = HashMap::new();
+/// The nets of every sender by the plain rule. A sound sender has at most 200 series, so 32 bits hold them.
+pub fn plain_nets(book: &SoundBook) -> Vec<(Slot, [i32; POSITIONS])> {
+    let mut sums: HashMap<Slot, [i32; POSITIONS]> = HashMap::new();
     for (_, block) in book.series() {
         let owner = Slot(u16_at(block, SENDER_SLOT));
         let bought = field(block, IN_PARTY) == book.owner(block);
         let sum = sums.entry(owner).or_insert([0; POSITIONS]);
         for (sum, value) in sum.iter_mut().zip(quantities(block)) {
-            *sum += if bought { i64::from(value) } else { -i64::from(value) };
+            *sum += if bought { value as i32 } else { -(value as i32) };
         }
     }
-    book.senders().all(|(slot, block)| {
-        let sum = sums.get(&slot).copied().unwrap_or([0; POSITIONS]);
-        nets(block).map(i64::from).eq(sum)
-    })
+    book.senders().map(|(slot, _)| (slot, sums.get(&slot).copied().unwrap_or([0; POSITIONS]))).collect()
 }

@@ -13,6 +13,7 @@ use crate::histogram::Histogram;
 use crate::identifier::is_well_formed_id;
 use crate::plain_rule::{self, Matching, PlainMark};
 use crate::readings::{final_in, plain_run};
+use crate::sound::is_sound;
 use crate::stream::Record;
 use crate::submission::submit;
 use crate::versions::kept_sender;
@@ -20,15 +21,21 @@ use crate::versions::kept_sender;
 /// How many finals are remembered for one opening, so that reading them again stays quick.
 const MOST_FINALS: usize = 200;
 
-/// What has legally happened to the book since it was opened.
-///
-/// Damaged and crafted books are no part of that. Whether the buffer still is the legal book is
-/// seen by comparing bytes, so a book that was damaged and put back counts as legal again.
+/// What has legally happened to a book since it was opened or converted.
 #[derive(Default)]
-struct Ledger {
-    legal_book: Vec<u8>,
+struct History {
+    book: Vec<u8>,
     accepted: Vec<Vec<u8>>,
     finals: HashMap<(Vec<u8>, Vec<u8>, u16), u32>,
+}
+
+/// Damaged and crafted books have no legal past. Whether the buffer still is the legal book is seen by
+/// comparing bytes, so a book that was damaged and put back counts as legal again. So does one that was put
+/// back after another one had been converted: its past is set aside.
+#[derive(Default)]
+struct Ledger {
+    legal: History,
+    aside: Option<History>,
     verified: u64,
     finals_read_again: u64,
 }
@@ -36,6 +43,9 @@ struct Ledger {
 impl Ledger {
     /// Looks at one call: the buffer before it and after it.
     fn observe(&mut self, record: &Record, reply: &Reply, before: &[u8], after: &[u8]) -> Result<(), String> {
+        if self.legal.book != before && self.aside.as_ref().map_or(false, |aside| aside.book == before) {
+            self.aside.as_mut().into_iter().for_each(|aside| std::mem::swap(aside, &mut self.legal));
+        }
         if character_told(reply) != character_due(record, reply) {
             return Err("another character is told than the wrong one".into());
         }
@@ -48,8 +58,13 @@ impl Ledger {
                 return Err("rule 6 is answered otherwise than id and version ask".into());
             }
         }
+        if let Reply::Convert(number) = reply {
+            if (*number == 0) != (is_sound(before) && states_are_right(before)) {
+                return Err("a conversion is answered otherwise than the old layout asks".into());
+            }
+        }
         let refused = match reply {
-            Reply::Open { number, .. } | Reply::Clock { number, .. } => *number != 0,
+            Reply::Open { number, .. } | Reply::Clock { number, .. } | Reply::Convert(number) => *number != 0,
             Reply::Submit(verdict) => verdict.broken.is_some(),
             _ => false,
         };
@@ -58,38 +73,50 @@ impl Ledger {
         }
         match (record, reply) {
             (Record::Open { .. }, _) => {
-                self.legal_book = after.to_vec();
-                self.accepted.clear();
-                self.finals.clear();
+                self.legal = History { book: after.to_vec(), ..History::default() };
+                self.aside = None;
             }
-            (Record::Clock(_), _) if before == self.legal_book => {
-                self.legal_book = after.to_vec();
+            (Record::Clock(_), _) if before == self.legal.book => {
+                self.legal.book = after.to_vec();
                 self.verify(after)?;
             }
             (Record::Submit(message), _) => {
                 written_only_where_allowed(message, before, after)?;
                 series_versions_follow(message, before)?;
-                if before == self.legal_book {
-                    self.legal_book = after.to_vec();
-                    self.accepted.push(message.clone());
+                if before == self.legal.book {
+                    self.legal.book = after.to_vec();
+                    self.legal.accepted.push(message.clone());
                     self.verify(after)?;
                     if plain_run(after) != (0, true) {
                         return Err("the plain run denies a legal book".into());
                     }
                 }
             }
+            (Record::Convert, _) => {
+                converted_only_marks_and_nets(before, after)?;
+                if after != self.legal.book {
+                    // From here on the series kept stand as their senders' latest messages.
+                    let converted =
+                        History { book: after.to_vec(), accepted: messages_of(after)?, ..History::default() };
+                    self.aside = Some(std::mem::replace(&mut self.legal, converted));
+                }
+                self.verify(after)?;
+                if plain_run(after) != (0, true) {
+                    return Err("the plain run denies a converted book".into());
+                }
+            }
             (Record::Judge(message), Reply::Judge(verdict)) if submit(&mut after.to_vec(), message) != *verdict => {
                 return Err("a message is not judged as it would be answered".into());
             }
             (Record::Final { out_party, in_party, position }, Reply::Final { number: number @ (0 | 26), value })
-                if after == self.legal_book =>
+                if after == self.legal.book =>
             {
-                let plain = plain_rule::final_quantity(&self.accepted, out_party, in_party, Position(*position));
+                let plain = plain_rule::final_quantity(&self.legal.accepted, out_party, in_party, Position(*position));
                 if plain != (*number == 0).then_some(*value) {
                     return Err("a final differs from the accepted messages".into());
                 }
                 let name = (out_party.clone(), in_party.clone(), *position);
-                if *number == 0 && *self.finals.entry(name).or_insert(*value) != *value {
+                if *number == 0 && *self.legal.finals.entry(name).or_insert(*value) != *value {
                     return Err("a final value changed".into());
                 }
             }
@@ -103,14 +130,14 @@ impl Ledger {
     fn verify(&mut self, book: &[u8]) -> Result<(), String> {
         let sound = SoundBook::of(book).ok_or("an acceptance left the book unsound")?;
         let kept = kept_matching(&sound);
-        let plain = plain_rule::matching(&self.accepted);
+        let plain = plain_rule::matching(&self.legal.accepted);
         if kept.marks != plain.marks {
             return Err("kept marks differ from the plain rule".into());
         }
         if kept.nets != plain.nets {
             return Err("kept nets differ from the plain rule".into());
         }
-        for ((out_party, in_party, position), &value) in &self.finals {
+        for ((out_party, in_party, position), &value) in &self.legal.finals {
             if final_in(&sound, out_party, in_party, Position(*position)) != (0, value) {
                 return Err("a final value given before is not given again".into());
             }
@@ -134,8 +161,8 @@ impl Ledger {
             let (in_party, out_party) = trades[(4 * self.verified as usize + turn) % trades.len()];
             let position = if turn % 2 == 0 { closed } else { 1 + (7 * self.verified % u64::from(closed)) as u16 };
             let (number, value) = final_in(book, &out_party, &in_party, Position(position));
-            if number == 0 && self.finals.len() < MOST_FINALS {
-                self.finals.entry((out_party.to_vec(), in_party.to_vec(), position)).or_insert(value);
+            if number == 0 && self.legal.finals.len() < MOST_FINALS {
+                self.legal.finals.entry((out_party.to_vec(), in_party.to_vec(), position)).or_insert(value);
             }
         }
     }
@@ -212,6 +239,37 @@ fn series_versions_follow(message: &[u8], before: &[u8]) -> Result<(), String> {
     Ok(())
 }
 
+/// Whether byte 104 of every series is a state of document 01.
+fn states_are_right(book: &[u8]) -> bool {
+    blocks(book).skip(1).filter(|block| block[KIND] == KIND_SERIES).all(|block| matches!(block[104], 1 | 2 | 3))
+}
+
+/// After a conversion: every series is as it was but for bytes 104 to 107 and its check, every sender but for
+/// its nets and its check, and any other block in every byte.
+fn converted_only_marks_and_nets(before: &[u8], after: &[u8]) -> Result<(), String> {
+    for (place, (old, new)) in blocks(before).zip(blocks(after)).enumerate() {
+        let same = match old[KIND] {
+            KIND_SERIES => old[..104] == new[..104] && old[108..508] == new[108..508],
+            KIND_SENDER => old[..108] == new[..108],
+            _ => old == new,
+        };
+        if !same {
+            return Err(format!("the conversion changed block {place} where it must not"));
+        }
+    }
+    Ok(())
+}
+
+/// For each sender of a book the message that its kept blocks stand for.
+fn messages_of(book: &[u8]) -> Result<Vec<Vec<u8>>, String> {
+    let sound = SoundBook::of(book).ok_or("a conversion left the book unsound")?;
+    Ok(sound
+        .senders()
+        .map(|(slot, head)| [head].into_iter().chain(sound.series_of(slot).map(|(_, series)| series)).copied())
+        .map(|list| list.collect::<Vec<Block>>().concat())
+        .collect())
+}
+
 /// Marks and nets as a book keeps them; the partner is told as the series in its slot.
 fn kept_matching(book: &SoundBook) -> Matching {
     let mut kept = Matching::default();
@@ -221,8 +279,10 @@ fn kept_matching(book: &SoundBook) -> Matching {
             let other = book.block(mark.partner);
             (book.owner(other), field(other, ID))
         });
-        kept.marks
-            .insert((book.owner(block), field(block, ID)), PlainMark { state: mark.state, first: mark.first, partner });
+        kept.marks.insert(
+            (book.owner(block), field(block, ID)),
+            PlainMark { differ: mark.differ, first: mark.first, partner },
+        );
     }
     for (_, block) in book.senders() {
         let mut row = [0; POSITIONS];
@@ -282,13 +342,14 @@ fn sender_side_is_true(book: &SoundBook, slot: Slot) -> Result<(), String> {
             .series()
             .find(|(_, block)| u16_at(block, SENDER_SLOT) != slot.0 && pair(block) == (in_party, out_party));
         let (other_slot, other) = match counterpart {
-            None if own[MARK..VALUES] == [1, 0, 0, 0] => continue,
+            None if own[MARK..VALUES] == [0, 0, 0, 0] => continue,
             None => return Err("a series without counterpart has a wrong mark".into()),
             Some(other) => other,
         };
-        let first = (1..=u16::from(book.n())).find(|&p| quantity(own, Position(p)) != quantity(other, Position(p)));
-        let state = if first.is_some() { 3 } else { 2 };
-        let expected = |partner| Mark { state, first: Position(first.unwrap_or(0)), partner };
+        let differs = |p: &u16| quantity(own, Position(*p)) != quantity(other, Position(*p));
+        let first = (1..=u16::from(book.n())).find(differs).unwrap_or(0);
+        let differ = (1..=u16::from(book.n())).filter(differs).count() as u8;
+        let expected = |partner| Mark { differ, first: Position(first), partner };
         if mark(own) != expected(other_slot) || mark(other) != expected(own_slot) {
             return Err("the marks of a trade's two sides are wrong".into());
         }
@@ -312,7 +373,7 @@ fn checked_calls(seed: u64, calls: u64, histogram: &mut Histogram) -> Result<Led
         before.extend_from_slice(desk.book());
         let reply = desk.answer(&record).expect("the generator keeps within the buffer");
         made += u64::from(record.is_call());
-        histogram.count(&record, &reply, &before, desk.book(), generator.breach());
+        histogram.count(&record, &reply, &before, desk.book(), generator.standing());
         ledger
             .observe(&record, &reply, &before, desk.book())
             .map_err(|failure| format!("failed at call {made} of seed {seed}: {failure}"))?;

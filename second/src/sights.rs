@@ -9,10 +9,12 @@ use crate::desk::Reply;
 use crate::identifier::{fails_by_hyphen_alone, is_valid_eic, wrong_character, NO_VALUE, VALUES as CHARACTERS};
 use crate::listing::MOST_BYTES;
 use crate::names::read_carelessly;
-use crate::sound::{is_day, MOST_BLOCKS};
+use crate::sound::{is_day, MOST_BLOCKS, NS};
 use crate::stream::Record;
 use crate::submission::{judge, Broken, Verdict};
 use crate::versions::{kept_sender, kept_version};
+
+pub mod marks;
 
 const FIFTEEN_ZEROS: [u8; 15] = [b'0'; 15];
 
@@ -75,13 +77,22 @@ cases! {
         UnjudgedSender "rule 1, 2 or 3, the sender not an EIC",
         UnjudgedParty "rule 7, a party not an EIC",
         UnjudgedArea "rule 9, an area not an EIC",
-        MarkState1 "mark in state 1",
-        MarkState2 "mark in state 2",
-        MarkState3 "mark in state 3",
+        MarkAlone "mark of a series without counterpart",
+        MarkAgrees "mark of an agreeing series",
+        Mark1To3 "mark, 1 to 3 positions differ",
+        Mark4Up "mark, 4 to n - 1 positions differ",
+        MarkAll "mark, all n positions differ",
+        MarkFirst1 "mark, the first is 1",
+        MarkFirstN "mark, the first is n",
+        CountOfN "not refused, a series keeps a count of n",
         FinalAbove0 "final with a value above 0",
         FinalSellerMissing "final with a missing seller series",
         PlainYes "plain run says yes",
         PlainNo "plain run says no",
+        PlainNoCount "plain run says no, counts alone false",
+        PlainNoFirst "plain run says no, firsts alone false",
+        PlainNoPartner "plain run says no, partners alone false",
+        PlainNoNet "plain run says no, nets alone false",
         ListingPrinted "listing printed",
         ListingLongest "listing of a book of 64 blocks",
         ListingByteMore "listing too long by a byte",
@@ -100,6 +111,44 @@ cases! {
         CheckWrong "check wrong",
         Seal "seal",
         Code "code",
+        ConvertedEmpty "converted, no series",
+        ConvertedUnchanged "converted in the new layout, no byte of any series changed",
+        ConvertedTrue "converted, old marks and nets true",
+        ConvertedState "converted, a state was false",
+        ConvertedFirst "converted, a first was false",
+        ConvertedPartner "converted, a partner was false",
+        ConvertedNet "converted, a net was false",
+        ConvertedAlone "converted, a series without counterpart",
+        ConvertedAgrees "converted, an agreeing series",
+        Converted1To3 "converted, 1 to 3 positions differ",
+        Converted4Up "converted, 4 to n - 1 positions differ",
+        ConvertedAll "converted, all n positions differ",
+        ConvertedN92 "converted, n 92",
+        ConvertedN96 "converted, n 96",
+        ConvertedN100 "converted, n 100",
+        ConvertedLarge "converted, more than 64 blocks",
+        ConvertNewZero "convert 1 in the new layout, counts of 0 and none above 3",
+        ConvertNewAbove "convert 1 in the new layout, counts above 3 and none of 0",
+        ConvertNewBoth "convert 1 in the new layout, counts of 0 and above 3",
+        ConvertTooLate "convert 1, an old book that took a message before",
+        ConvertedAgain "converted a second time, 0",
+        ConvertAgainRefused "converted a second time, 1",
+        OldAccepted "old book before its conversion: a message accepted",
+        OldJudged "old book before its conversion: a message judged good",
+        OldMark "old book before its conversion: a mark",
+        OldBlock "old book before its conversion: a block",
+        OldFinal "old book before its conversion: a final",
+        OldPlainNo "old book before its conversion: the plain run says no",
+        OldListing "old book before its conversion: a listing printed",
+        OldClock "old book before its conversion: the clock moved",
+        NewAccepted "first after a conversion: a message accepted",
+        NewJudged "after a conversion, nothing accepted since: a message judged good",
+        NewMark "after a conversion, nothing accepted since: a mark",
+        NewBlock "after a conversion, nothing accepted since: a block",
+        NewFinal "after a conversion, nothing accepted since: a final",
+        NewPlainYes "after a conversion, nothing accepted since: the plain run says yes",
+        NewListing "after a conversion, nothing accepted since: a listing printed",
+        NewClock "after a conversion, nothing accepted since: the clock moved",
     }
 }
 
@@ -114,7 +163,7 @@ pub fn sights(record: &Record, reply: &Reply, before: &[u8], book: &[u8]) -> Vec
             [of_verdict, versions(message, verdict, before)].concat()
         }
         (Record::Open { n, lead, day, area, receiver }, Reply::Open { number: 21, .. }) => {
-            let other = !matches!(n, 92 | 96 | 100) || *lead > LONGEST_LEAD || !is_day(day);
+            let other = !NS.contains(n) || *lead > LONGEST_LEAD || !is_day(day);
             let mut seen = held(&[(*lead == LONGEST_LEAD + 1, Sight::LeadBeyondLongest)]);
             seen.extend(codes_of_opening(area, receiver, other));
             seen
@@ -127,6 +176,9 @@ pub fn sights(record: &Record, reply: &Reply, before: &[u8], book: &[u8]) -> Vec
         }
         (Record::Eic(text), Reply::Eic(character)) => code_checked(text, *character),
         (Record::Listing, Reply::Listing(text)) => listing_given(text, book.len()),
+        (Record::Mark { .. }, Reply::Mark { number: 0, mark }) => marks::mark_read(mark, book),
+        (Record::Plain, Reply::Plain { number: 0, yes: false }) => marks::plain_says_no(book),
+        (Record::Convert, Reply::Convert(number)) => marks::conversion(*number, before, book),
         (Record::Final { out_party, in_party, .. }, Reply::Final { number: 0, value }) => {
             final_given(out_party, in_party, *value, book)
         }
@@ -138,13 +190,7 @@ pub fn sights(record: &Record, reply: &Reply, before: &[u8], book: &[u8]) -> Vec
 fn plain_sight(reply: &Reply) -> Option<Sight> {
     let either = |yes: bool, if_yes: Sight, if_no: Sight| Some(if yes { if_yes } else { if_no });
     match reply {
-        Reply::Mark { mark, .. } => match mark.state {
-            1 => Some(Sight::MarkState1),
-            2 => Some(Sight::MarkState2),
-            3 => Some(Sight::MarkState3),
-            _ => None,
-        },
-        Reply::Plain { number: 0, yes } => either(*yes, Sight::PlainYes, Sight::PlainNo),
+        Reply::Plain { number: 0, yes: true } => Some(Sight::PlainYes),
         Reply::Sound(yes) => either(*yes, Sight::SoundYes, Sight::SoundNo),
         Reply::Reader(series) => either(series.is_empty(), Sight::ReaderEmpty, Sight::ReaderSeries),
         Reply::Walk { count, .. } => either(*count == 0, Sight::WalkNothing, Sight::WalkWhole),

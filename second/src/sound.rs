@@ -7,6 +7,17 @@ use crate::identifier::{is_valid_eic, is_well_formed_id};
 
 pub const FEWEST_BLOCKS: usize = 2;
 pub const MOST_BLOCKS: usize = 1_001;
+/// How many positions a day may have.
+pub const NS: [u8; 3] = [92, 96, 100];
+
+/// What byte 104 of a series holds.
+#[derive(Clone, Copy, Debug, PartialEq, Eq)]
+pub enum Layout {
+    /// The state of document 01, 1 to 3. Only the conversion asks for it.
+    Old,
+    /// At how many positions the counterpart differs, 0 to n.
+    New,
+}
 
 clauses! {
     /// The single conditions of a sound book, in the order of the paper's paragraph.
@@ -53,19 +64,24 @@ clauses! {
         SeriesIdTwice "a sender's series id twice",
         PairTwice "a sender's pair twice",
         CountWrong "sender: count is not that of its series",
-        State "series: state not 1 to 3",
+        Byte104 "series: byte 104 out of range",
         First "series: first above n",
         Partner "series: partner neither 0 nor a series slot",
     }
 }
 
 /// The first broken clause, if any.
-pub fn first_broken(book: &[u8]) -> Option<SoundClause> {
-    SoundClause::first(broken_clauses(book))
+pub fn first_broken(book: &[u8], layout: Layout) -> Option<SoundClause> {
+    SoundClause::first(broken_clauses(book, layout))
 }
 
 pub fn is_sound(book: &[u8]) -> bool {
-    broken_clauses(book) == 0
+    broken_clauses(book, Layout::New) == 0
+}
+
+/// Whether the book was sound when byte 104 was a state. Since n is above 3, it is sound now too.
+pub fn is_sound_in_old_layout(book: &[u8]) -> bool {
+    broken_clauses(book, Layout::Old) == 0
 }
 
 /// Whether a book may have this many bytes.
@@ -84,7 +100,7 @@ macro_rules! demand {
 
 /// All broken clauses, as far as the book can be read at all: with a wrong length, a wrong check
 /// or a day block without a lawful n nothing further is judged.
-pub fn broken_clauses(book: &[u8]) -> u64 {
+pub fn broken_clauses(book: &[u8], layout: Layout) -> u64 {
     if book.len() % BLOCK_BYTES != 0 {
         return SoundClause::WholeBlocks.bit();
     }
@@ -119,7 +135,7 @@ pub fn broken_clauses(book: &[u8]) -> u64 {
     for &(_, block) in &used {
         broken |= match block[KIND] {
             KIND_SENDER => broken_in_sender(block, day),
-            KIND_SERIES => broken_in_series(block, day),
+            KIND_SERIES => broken_in_series(block, day, layout),
             _ => SoundClause::Kind.bit(),
         };
     }
@@ -129,7 +145,7 @@ pub fn broken_clauses(book: &[u8]) -> u64 {
 fn broken_in_day(day: &Block) -> u64 {
     let mut broken = 0;
     demand!(broken, DayKind, day[KIND] == KIND_DAY);
-    demand!(broken, DayN, matches!(day[N], 92 | 96 | 100));
+    demand!(broken, DayN, NS.contains(&day[N]));
     demand!(broken, DayLead, u16_at(day, LEAD) <= LONGEST_LEAD);
     demand!(broken, DayClock, u16_at(day, CLOCK) <= LATEST_MINUTE);
     demand!(broken, DayZeroBytes, all_zero(&day[6..8]) && all_zero(&day[16..24]) && all_zero(&day[56..CHECK]));
@@ -160,7 +176,7 @@ fn broken_in_sender(sender: &Block, day: &Block) -> u64 {
     broken
 }
 
-fn broken_in_series(series: &Block, day: &Block) -> u64 {
+fn broken_in_series(series: &Block, day: &Block, layout: Layout) -> u64 {
     let n = usize::from(day[N]);
     let area = field(day, AREA);
     let (in_party, out_party) = pair(series);
@@ -179,7 +195,11 @@ fn broken_in_series(series: &Block, day: &Block) -> u64 {
     demand!(broken, PartiesEqual, in_party != out_party);
     demand!(broken, InParty, is_valid_eic(&in_party));
     demand!(broken, OutParty, is_valid_eic(&out_party));
-    demand!(broken, State, (1..=3).contains(&series[STATE]));
+    let lawful = match layout {
+        Layout::Old => 1..=3,
+        Layout::New => 0..=day[N],
+    };
+    demand!(broken, Byte104, lawful.contains(&series[DIFFER]));
     demand!(broken, First, usize::from(series[FIRST]) <= n);
     broken
 }

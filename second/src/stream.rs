@@ -38,6 +38,7 @@ pub enum Record {
     Seal(Box<Block>),
     Code(u8),
     Judge(Vec<u8>),
+    Convert,
 }
 
 /// Why reading stopped.
@@ -70,13 +71,14 @@ const TAG_CHECK: u8 = 20;
 const TAG_SEAL: u8 = 21;
 const TAG_CODE: u8 = 22;
 const TAG_JUDGE: u8 = 23;
+const TAG_CONVERT: u8 = 25;
 
 /// The fewest and the most bytes a body of this kind may have; nothing for an unknown tag.
 pub fn body_limits(tag: u8) -> Option<(usize, usize)> {
     Some(match tag {
         TAG_LENGTH => (4, 4),
         TAG_BYTES => (4, 4 + MOST_BOOK_BYTES),
-        TAG_BOOK | TAG_SUM | TAG_PLAIN | TAG_LISTING | TAG_SOUND => (0, 0),
+        TAG_BOOK | TAG_SUM | TAG_PLAIN | TAG_LISTING | TAG_SOUND | TAG_CONVERT => (0, 0),
         TAG_OPEN => (6, 6 + 3 * MOST_TEXT_BYTES),
         TAG_CLOCK => (2, 2),
         TAG_SUBMIT | TAG_WALK | TAG_JUDGE => (0, MOST_MESSAGE_BYTES),
@@ -91,10 +93,28 @@ pub fn body_limits(tag: u8) -> Option<(usize, usize)> {
     })
 }
 
-/// The words of the calls, in the order of their tags.
-pub const CALL_WORDS: [&str; 19] = [
-    "open", "clock", "submit", "mark", "block", "final", "plain", "reader", "walk", "listing", "sound", "eic", "id",
-    "read", "print", "check", "seal", "code", "judge",
+/// The calls: tag and word.
+pub const CALLS: [(u8, &str); 20] = [
+    (TAG_OPEN, "open"),
+    (TAG_CLOCK, "clock"),
+    (TAG_SUBMIT, "submit"),
+    (TAG_MARK, "mark"),
+    (TAG_BLOCK, "block"),
+    (TAG_FINAL, "final"),
+    (TAG_PLAIN, "plain"),
+    (TAG_READER, "reader"),
+    (TAG_WALK, "walk"),
+    (TAG_LISTING, "listing"),
+    (TAG_SOUND, "sound"),
+    (TAG_EIC, "eic"),
+    (TAG_ID, "id"),
+    (TAG_READ, "read"),
+    (TAG_PRINT, "print"),
+    (TAG_CHECK, "check"),
+    (TAG_SEAL, "seal"),
+    (TAG_CODE, "code"),
+    (TAG_JUDGE, "judge"),
+    (TAG_CONVERT, "convert"),
 ];
 
 /// The records that turn one book into another: a new length where it differs, then the blocks that
@@ -127,15 +147,15 @@ pub fn records_between(from: &[u8], to: &[u8]) -> Vec<Record> {
 impl Record {
     /// The word of a call of the paper; nothing for a record that just sets or shows the buffer.
     pub fn call_word(&self) -> Option<&'static str> {
-        self.tag().checked_sub(TAG_OPEN).map(|place| CALL_WORDS[usize::from(place)])
+        CALLS.iter().find(|&&(tag, _)| tag == self.tag()).map(|&(_, word)| word)
     }
 
     /// Whether this is a call of the paper, and not just a setting or showing of the buffer.
     pub fn is_call(&self) -> bool {
-        !matches!(self, Record::Length(_) | Record::Bytes { .. } | Record::Book | Record::Sum)
+        self.call_word().is_some()
     }
 
-    /// Whether this is a call that refuses a book that is not sound.
+    /// Whether this is a call that refuses a book that is not sound. A conversion asks for the old layout.
     pub fn asks_for_soundness(&self) -> bool {
         matches!(
             self,
@@ -155,7 +175,12 @@ impl Record {
     pub fn may_change(&self) -> bool {
         matches!(
             self,
-            Record::Length(_) | Record::Bytes { .. } | Record::Open { .. } | Record::Clock(_) | Record::Submit(_)
+            Record::Length(_)
+                | Record::Bytes { .. }
+                | Record::Open { .. }
+                | Record::Clock(_)
+                | Record::Submit(_)
+                | Record::Convert
         )
     }
 
@@ -184,6 +209,7 @@ impl Record {
             Record::Seal(_) => TAG_SEAL,
             Record::Code(_) => TAG_CODE,
             Record::Judge(_) => TAG_JUDGE,
+            Record::Convert => TAG_CONVERT,
         }
     }
 
@@ -195,7 +221,7 @@ impl Record {
                 body.extend(offset.to_le_bytes());
                 body.extend(bytes);
             }
-            Record::Book | Record::Sum | Record::Plain | Record::Listing | Record::Sound => {}
+            Record::Book | Record::Sum | Record::Plain | Record::Listing | Record::Sound | Record::Convert => {}
             Record::Open { n, lead, day, area, receiver } => {
                 body.push(*n);
                 body.extend(lead.to_le_bytes());
@@ -361,6 +387,7 @@ fn decode(tag: u8, body: &[u8]) -> Option<Record> {
         TAG_SEAL => Record::Seal(fields.block()?),
         TAG_CODE => Record::Code(fields.u8()?),
         TAG_JUDGE => Record::Judge(fields.rest()),
+        TAG_CONVERT => Record::Convert,
         _ => return None,
     };
     fields.0.is_empty().then_some(record)
@@ -386,6 +413,7 @@ mod tests {
             Record::Print { quantity: 5, buffer: vec![] },
             Record::Seal(Box::new([5; BLOCK_BYTES])),
             Record::Judge(vec![8; 700]),
+            Record::Convert,
         ];
         let mut stream = Vec::new();
         for record in &records {
@@ -403,6 +431,8 @@ mod tests {
         assert!(matches!(read(&[]), Ok(None)));
         assert!(matches!(read(&[0, 0, 0, 0, 0]), Err(Stop::Malformed)));
         assert!(matches!(read(&[24, 0, 0, 0, 0]), Err(Stop::Malformed)));
+        assert!(matches!(read(&[26, 0, 0, 0, 0]), Err(Stop::Malformed)));
+        assert!(matches!(read(&[25, 1, 0, 0, 0, 0]), Err(Stop::Malformed)));
         assert!(matches!(read(&[3]), Err(Stop::Malformed)));
         assert!(matches!(read(&[3, 0, 0, 0]), Err(Stop::Malformed)));
         assert!(matches!(read(&[3, 1, 0, 0, 0, 0]), Err(Stop::Malformed)));

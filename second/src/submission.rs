@@ -391,14 +391,10 @@ fn enter(book: &mut [u8], message: &[u8], plan: &Plan) {
     let mut sums = [0i32; POSITIONS];
     for (series, place) in blocks(message).skip(1).zip(&plan.series) {
         // The mark of both sides: the series' own, and its counterpart's, which points back.
-        let mut own = Mark { state: 1, first: Position(0), partner: Slot(0) };
+        let mut own = Mark::ALONE;
         if let Some(counterpart) = place.counterpart {
             let other = block_at_mut(book, usize::from(counterpart.0));
-            own.partner = counterpart;
-            (own.state, own.first) = match first_difference(series, other, plan.n) {
-                None => (2, Position(0)),
-                Some(position) => (3, position),
-            };
+            own = Mark::between(series, other, plan.n, counterpart);
             put_mark(other, Mark { partner: place.slot, ..own });
             seal(other);
         }
@@ -423,8 +419,6 @@ fn enter(book: &mut [u8], message: &[u8], plan: &Plan) {
     }
     let head = block_at_mut(book, usize::from(plan.sender.0));
     *head = *block_at(message, 0);
-    for (four, sum) in head[VALUES..CHECK].chunks_exact_mut(4).zip(sums) {
-        four.copy_from_slice(&sum.to_le_bytes());
-    }
+    put_nets(head, &sums);
     seal(head);
 }

@@ -80,7 +80,7 @@ pub fn quantity(random: &mut Random) -> Vec<u8> {
 pub fn quantity_to_print(random: &mut Random) -> u32 {
     match random.below(6) {
         0 => random.pick(&[0, 1, 999, 1_000, 9_999, 10_000, 99_999, 999_999, 1_000_000, HIGHEST_QUANTITY]),
-        1 => random.pick(&[HIGHEST_QUANTITY + 1, u32::MAX, 1 << 31]),
+        1 | 2 => random.pick(&[HIGHEST_QUANTITY + 1, u32::MAX, 1 << 31]),
         _ => names::quantity(random),
     }
 }

@@ -1,12 +1,13 @@
 //! Every call but submitting and judging, and calls on damaged and broken books.
 
-use super::{flip_and_reseal, Generator, Repair};
+use super::{flip_and_reseal, Generator, Repair, Standing};
 use crate::block::*;
 use crate::breach::break_book;
 use crate::counts::{Minute, Position, DAY_START, LATEST_MINUTE};
-use crate::crafted;
+use crate::crafted::{self, Kept};
 use crate::listing;
 use crate::names;
+use crate::old_book::{old_book, Falsehood};
 use crate::sound::is_sound;
 use crate::stream::Record;
 use crate::texts;
@@ -126,6 +127,17 @@ impl Generator {
         self.queue.push_back(Record::Final { out_party, in_party, position });
     }
 
+    /// The final of a filed trade at a closed position. There must be both.
+    pub(super) fn closed_final(&mut self, book: &[u8]) {
+        let random = &mut self.random;
+        let series: Vec<&Block> = blocks(book).skip(1).filter(|block| block[KIND] == KIND_SERIES).collect();
+        let (in_party, out_party) = pair(random.pick(&series));
+        let day = block_at(book, 0);
+        let last_closed = (first_open(day) - 1).min(u16::from(day[N]));
+        let position = random.between(1, usize::from(last_closed)) as u16;
+        self.queue.push_back(Record::Final { out_party: out_party.to_vec(), in_party: in_party.to_vec(), position });
+    }
+
     /// Damages the book, makes some calls on it and then puts it back as it was.
     pub(super) fn damage(&mut self, book: &[u8]) {
         if self.repair.is_some() || !is_sound(book) {
@@ -145,7 +157,10 @@ impl Generator {
                 flip_and_reseal(random, &mut bytes);
                 Some(bytes)
             }
-            2 => crafted::falsify(random, book),
+            2 => {
+                let what = random.pick(Kept::ALL);
+                crafted::falsify(random, book, what)
+            }
             _ => {
                 let keep = random.below(book.len());
                 Some(book[..keep].to_vec())
@@ -158,18 +173,20 @@ impl Generator {
         }
     }
 
-    /// A few calls on a book that breaks one clause of soundness, which is then put back.
+    /// A few calls on a book that breaks one clause of soundness, which is then put back. It is of the old layout
+    /// but for that, so its conversion fails by the clause alone.
     pub(super) fn broken_book(&mut self, book: &[u8]) {
         if !is_sound(book) {
             return;
         }
-        let dealt = self.breaches.deal_serving(&mut self.random, |random, breach| break_book(random, book, breach));
+        let old = old_book(&mut self.random, book, Falsehood::Nothing);
+        let old = old.expect("a book in which nothing is to be false can always be made");
+        let dealt = self.breaches.deal_serving(&mut self.random, |random, breach| break_book(random, &old, breach));
         if let Some((breach, broken)) = dealt {
-            self.breach = Some(breach);
             self.set_book(book, &broken);
-            for _ in 0..self.random.between(2, 3) {
-                self.book_call(book);
-            }
+            self.queue.standing = Standing::Broken(breach);
+            self.queue.push_back(Record::Convert);
+            self.book_call(book);
             self.queue.push_back(Record::Sum);
             self.set_book(&broken, book);
         }
@@ -214,7 +231,7 @@ impl Generator {
     /// Calls that need no book.
     pub(super) fn leaf(&mut self) {
         let random = &mut self.random;
-        let record = match random.weighted(&[12, 4, 7, 4, 2, 2, 8]) {
+        let record = match random.weighted(&[16, 4, 6, 4, 2, 2, 4]) {
             0 if random.percent(60) => {
                 let character = self.wrong_texts.deal(random);
                 Record::Eic(names::wrong_text_at(random, character))
@@ -240,7 +257,7 @@ impl Generator {
 }
 
 /// The lowest open position of a hundred; 101 when all are closed.
-fn first_open(day: &Block) -> u16 {
+pub(super) fn first_open(day: &Block) -> u16 {
     let (clock, lead) = (Minute(u16_at(day, CLOCK)), u16_at(day, LEAD));
     (1..=100).find(|&position| Position(position).is_open(clock, lead)).unwrap_or(101)
 }

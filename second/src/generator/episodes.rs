@@ -41,7 +41,7 @@ impl Generator {
         self.begin(episode);
         match episode {
             Episode::Climb => self.crafted_climb(book),
-            Episode::Limit(_) => self.opened_book(),
+            Episode::Limit(_) | Episode::Two => self.opened_book(),
             Episode::Full if self.random.percent(50) => self.crafted_episode(book),
             _ if self.random.percent(22) => self.crafted_episode(book),
             _ => self.opened_book(),
@@ -60,14 +60,16 @@ impl Generator {
             Episode::Full => (random.between(202, 240), random.between(14, 24)),
             Episode::Limit(_) => (random.between(202, 240), random.between(9, 14)),
             Episode::Climb => (random.between(2, 4), 0),
+            Episode::Two => (random.between(2, 4), random.between(6, 14)),
         };
         self.partners = self.pool[..partners].to_vec();
         self.left = left;
         self.large_messages = match episode {
-            Episode::Full => random.between(6, 8),
+            Episode::Full => random.between(7, 9),
             Episode::Limit(_) => 6,
             _ => 0,
         };
+        self.steps_of_two = if episode == Episode::Two { random.between(4, 8) } else { 0 };
     }
 
     /// How many blocks a book of this episode gets when it is opened.
@@ -83,6 +85,7 @@ impl Generator {
             Episode::Full => random.between(400, MOST_BLOCKS),
             Episode::Limit(_) => random.between(202, 210),
             Episode::Climb => random.between(6, 12),
+            Episode::Two => random.between(7, 20),
         }
     }
 
@@ -108,7 +111,7 @@ impl Generator {
         };
         self.queue.push_back(open);
         self.queue.push_back(Record::Sum);
-        if !matches!(self.episode, Episode::Limit(_)) && self.random.percent(35) {
+        if !matches!(self.episode, Episode::Limit(_) | Episode::Two) && self.random.percent(35) {
             // The clock starts somewhere in the day already.
             let position = self.random.between(1, 60) as u16;
             self.queue.push_back(Record::Clock(DAY_START + 15 * position - lead));
@@ -119,7 +122,7 @@ impl Generator {
     pub(super) fn opening(&mut self) -> Record {
         let random = &mut self.random;
         Record::Open {
-            n: random.pick(&[92, 96, 100]),
+            n: self.ns.deal(random),
             lead: crafted::lead(random),
             day: names::day(random).to_vec(),
             area: random.pick(&self.pool).to_vec(),
@@ -248,11 +251,18 @@ impl Generator {
         self.left = 2 * (usize::from(HIGHEST_VERSION) - version + BEYOND_CLIMB);
     }
 
-    /// The next filing of the climber, one version up; in the end there is no version left for it.
+    /// The version after this one in a climb: the next about each multiple of 256 and near the last, else one
+    /// that is a few further up.
+    fn next_rung(&mut self, kept: u16) -> u16 {
+        let slow = (kept + 8) & 255 < 16 || kept + 12 > HIGHEST_VERSION;
+        kept + if slow { 1 } else { self.random.between(1, 8) as u16 }
+    }
+
+    /// The next filing of the climber, some versions up; in the end there is no version left for it.
     pub(super) fn climb(&mut self, book: &[u8]) {
         let sender = self.climber.as_ref().expect("there is a climber").sender;
         let kept = kept_version(book, &sender).unwrap_or(0);
-        let mut version = Version::Next;
+        let mut version = Version::Exactly(self.next_rung(kept));
         if kept == HIGHEST_VERSION {
             let after = self.random.pick(&[HIGHEST_VERSION + 1, HIGHEST_VERSION, HIGHEST_VERSION - 1]);
             version = Version::Exactly(after);

@@ -75,7 +75,7 @@ impl Generator {
         let mut sender = self.sender(book);
         let mut growth = self.growth(book);
         let random = &mut self.random;
-        let kind = random.weighted(&[32, 6, 36, 14, 6, 5, 17, 2, 1]);
+        let kind = random.weighted(&[28, 6, 38, 14, 8, 5, 18, 2, 1]);
         match kind {
             // A message that changes nothing.
             1 => growth = Growth { new: New::UpTo(0), changed: 0, side: None, version: Version::Lawful },
@@ -97,26 +97,11 @@ impl Generator {
         draft.finished(&mut self.random, &[])
     }
 
-    /// One fault, or several wherever they fall.
+    /// The fault that is next in turn, or several wherever they fall.
     pub(super) fn spoil(&mut self, draft: &mut Draft) {
         let random = &mut self.random;
         for _ in 0..random.pick(&[1, 1, 1, 2, 3]) {
-            // Some faults find what they need only now and then, so they get more tries.
-            let fault = match random.below(5) {
-                0 => random.pick(&[Fault::Receiver, Fault::AboveN, Fault::AboveN, Fault::Absent, Fault::Absent]),
-                1 => random.pick(&[
-                    Fault::OtherMessageId,
-                    Fault::SeriesId,
-                    Fault::IdTwice,
-                    Fault::IdOtherPair,
-                    Fault::PairTwice,
-                    Fault::EqualParties,
-                    Fault::ClosedChanged,
-                    Fault::ClosedNew,
-                    Fault::Absent,
-                ]),
-                _ => random.pick(Fault::ALL),
-            };
+            let fault = self.faults.deal(random);
             let place = draft.any_place(random);
             draft.spoil(random, fault, place, &self.partners);
         }
@@ -230,7 +215,7 @@ impl Generator {
         }
         // A book grows by what is submitted, so few messages that it takes are judged alone. Judged once
         // they are in, they are stale.
-        let weights = if is_accepted(book, &message) { [10, 48, 35, 7] } else { [35, 30, 35, 0] };
+        let weights = if is_accepted(book, &message) { [10, 40, 43, 7] } else { [22, 36, 42, 0] };
         match self.random.weighted(&weights) {
             0 => self.judge_and_show(message),
             1 => {
