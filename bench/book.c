@@ -1,5 +1,5 @@
-/* Makes one call on a full book, 1,001 blocks with 1,000 of them used: SENDERS senders, each with as many series as fit.
-   bench/run counts the instructions which that executes, less those of making the book. */
+/* Makes one call on a full book, 1,001 blocks with 1,000 of them used: SENDERS senders, each with as many series as fit; a conversion on the same book in the
+   old layout. bench/run counts the instructions which that executes, less those of making the book. */
 #include "full_book.h"
 
 int main(int argc, char **argv) {
@@ -13,13 +13,15 @@ int main(int argc, char **argv) {
     if (tetherbay_clock(book, sizeof book, 10080 + 1500).number) return 5; /* every position closed */
     uint64_t r = 0;
     const char *call = argv[1];
+    if (!strcmp(call, "old") || !strcmp(call, "convert")) old_layout(book, sizeof book);
     if (!strcmp(call, "checks")) r = tetherbay_checks_right(book, sizeof book);
     if (!strcmp(call, "sound")) r = tetherbay_sound(book, sizeof book);
     if (!strcmp(call, "clock")) r = tetherbay_clock(book, sizeof book, 10080 + 1500).number;
-    if (!strcmp(call, "mark")) r = tetherbay_mark(book, sizeof book, party, 16, id, 16).state;
+    if (!strcmp(call, "mark")) r = tetherbay_mark(book, sizeof book, party, 16, id, 16).differ;
     if (!strcmp(call, "block")) r = tetherbay_accepted_block(book, sizeof book, party, 16, id, 16).offset;
     if (!strcmp(call, "final")) r = tetherbay_final(book, sizeof book, other, 16, party, 16, 1).number; /* the buyer has the pair, the seller has none */
     if (!strcmp(call, "plain")) r = tetherbay_plain_run(book, sizeof book).holds;
+    if (!strcmp(call, "convert")) r = tetherbay_convert(book, sizeof book);
     printf("%llu of %zu\n", (unsigned long long)r, used);
     return 0;
 }

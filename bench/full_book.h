@@ -16,7 +16,6 @@ static inline void sender_with_series(unsigned s, unsigned series) {
         uint8_t *x = book + BLOCK * ++used;
         series_block(x, book, k, 1, s, s + k + 1, 1000 * k);
         put(x + 6, 2, (uint32_t)slot);
-        x[104] = 1;
         for (unsigned p = 0; p < N; p++) put(b + 108 + 4 * p, 4, number(b + 108 + 4 * p, 4) + 1000 * k + p);
         tetherbay_seal(x, BLOCK);
     }

@@ -1,5 +1,5 @@
 /* one_call CALL TIMES BOOK MESSAGE [AFTER]: makes a call on the book of a file, none or one time, prints the verdict and writes the book that is left.
-   CALL is submit, sound or checks. With more TIMES it prints the median of their microseconds of processor time, each call on the book as read.
+   CALL is submit, sound, convert or checks. With more TIMES it prints the median of their microseconds of processor time, each call on the book as read.
    one_call.rs is its twin. */
 #include "../include/tetherbay.h"
 #include <stdio.h>
@@ -25,6 +25,7 @@ static tetherbay_verdict call(const char *what, size_t length) {
     tetherbay_verdict v = {0};
     if (!strcmp(what, "submit")) return tetherbay_submit(book, length, message, message_length);
     if (!strcmp(what, "sound")) v.number = tetherbay_sound(book, length);
+    if (!strcmp(what, "convert")) v.number = tetherbay_convert(book, length);
     if (!strcmp(what, "checks")) v.number = tetherbay_checks_right(book, length);
     return v;
 }

@@ -3,6 +3,7 @@
 use std::env;
 use std::fs;
 
+use second::conversion::convert;
 use second::sound::is_sound;
 use second::submission::submit;
 
@@ -13,6 +14,7 @@ fn call(what: &str, book: &mut [u8], message: &[u8]) -> (u32, usize, usize) {
             (u32::from(v.number()), usize::from(v.series), usize::from(v.position.0))
         }
         "sound" => (u32::from(is_sound(book)), 0, 0),
+        "convert" => (u32::from(convert(book)), 0, 0),
         _ => (0, 0, 0),
     }
 }

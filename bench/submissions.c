@@ -69,12 +69,18 @@ static void one_absent(void) {
     make_message(MOST_SERIES - 1, 2, 100);
 }
 
+/* The book in its old layout; the message is not asked for. */
+static void old(void) {
+    all_changed();
+    old_layout(book, sizeof book);
+}
+
 static const struct {
     const char *name;
     void (*make)(void);
 } cases[] = {
     {"one-into-empty", one_into_empty}, {"one-into-full", one_into_full}, {"all-new", all_new}, {"all-changed", all_changed},
-    {"wrong-check", wrong_check}, {"id-twice", id_twice}, {"one-absent", one_absent},
+    {"wrong-check", wrong_check}, {"id-twice", id_twice}, {"one-absent", one_absent}, {"old", old},
 };
 
 static void write_file(const char *name, const uint8_t *bytes, size_t length) {

@@ -60,7 +60,7 @@ static void print_mark(const char *sender, const char *series_id) {
     uint8_t id[16];
     field(id, series_id);
     tetherbay_mark_answer m = tetherbay_mark(book, sizeof book, bytes(sender), 16, id, 16);
-    printf("%s %s: state %u, first %zu, partner %zu\n", sender, series_id, m.state, m.first, m.partner);
+    printf("%s %s: differ %u, first %zu, partner %zu\n", sender, series_id, m.differ, m.first, m.partner);
 }
 
 static void print_final(size_t position) {

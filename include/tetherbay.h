@@ -4,8 +4,8 @@
    return, and reads and writes nothing outside it. A pointer may be any but null where its length is 0. crates/export/src has each call's promise as it
    is proved, docs/PROMISES.md the same in words.
 
-   Open, clock and submit alter the book that they are lent, seal its block, print and listing their text; no other buffer is altered, and no call alters
-   one that is const here. No other buffer of such a call may be the one that it alters, or overlap it: not the day, area or receiver of an opening, nor
+   Open, convert, clock and submit alter the book that they are lent, seal its block, print and listing their text; no other buffer is altered, and no call
+   alters one that is const here. No other buffer of such a call may be the one that it alters, or overlap it: not the day, area or receiver of an opening, nor
    the message of a submission, nor the book that is listed. Buffers that a call only reads may be one, or overlap.
 
    Where an answer has a number, 0 says that the call did what was asked; any other is a refusal, which leaves every byte of the buffers as it was and
@@ -81,10 +81,12 @@ tetherbay_reply_answer tetherbay_reply(uint32_t number);
 
 /* ---- a day book: blocks of 512 bytes, from 2 to 1,001 of them, the day block and then slots 1, 2 and on
 
-   Of a book that was opened and that only open, clock and submit have altered since: its marks and nets are what the plain matching rule gives on the
-   messages that submit has answered with 0 since then, and a final value once given is given unchanged until the book is opened again. */
+   Of a book that was opened or converted and that only open, convert, clock and submit have altered since: its marks and nets are what the plain matching
+   rule gives on the messages that submit has answered with 0 since then, and a final value once given is given unchanged until the book is opened again. A
+   conversion begins these messages with one for each sender, made of the blocks that the book keeps. */
 
-/* Whether the buffer is a sound book; the book is only read. Every other call on a book but open asks this first, and refuses with 1 where it is not. */
+/* Whether the buffer is a sound book; the book is only read. Every other call on a book but open and convert asks this first, and refuses with 1 where it
+   is not. */
 bool tetherbay_sound(const uint8_t *book, size_t length);
 
 /* 0, 20 or 21, and on 21 which character is wrong, as tetherbay_eic gives it: of the area, or of the receiver where the area is a valid EIC, whatever else is
@@ -99,6 +101,13 @@ typedef struct {
    eight digits, or the area or the receiver not a valid EIC. */
 tetherbay_open_answer tetherbay_open(uint8_t *book, size_t length, uint8_t n, uint16_t lead, const uint8_t *day, size_t day_length, const uint8_t *area,
                                      size_t area_length, const uint8_t *receiver, size_t receiver_length);
+
+/* Converts a book of the old layout, whose series keep a state of 1 to 3 in byte 104, where the present one keeps at how many positions the counterpart differs.
+   Convert before any other call: an old book is taken for one of the present layout, and its states for such counts. Alters the book: every mark and all
+   nets, worked out afresh by the plain rule, and their checks. 0; 1 where the book is not sound in the old layout, and then nothing is written: it is damaged,
+   or a series has 0 or more than 3 in byte 104, as the present layout has it and as a submission before the conversion writes it. Where all marks and nets
+   are true already no byte changes, whatever the answer; the plain run says whether they are. */
+uint32_t tetherbay_convert(uint8_t *book, size_t length);
 
 typedef struct {
     uint8_t n;
@@ -133,11 +142,11 @@ tetherbay_verdict tetherbay_submit(uint8_t *book, size_t length, const uint8_t *
 /* The verdict that a submission would get now. The book is only read. */
 tetherbay_verdict tetherbay_judge(const uint8_t *book, size_t length, const uint8_t *message, size_t message_length);
 
-/* 0 and the kept mark: state 1 (no counterpart), 2 (all positions agree) or 3 (they differ, first at this position), the state's code (28 for A28 on 1, 9 for
-   A09 on 3, 0 on 2) and the counterpart's slot. */
+/* 0 and the kept mark: at how many positions the counterpart differs, the first of these and the counterpart's slot. A series that has no counterpart has 0, 0
+   and slot 0, one whose counterpart agrees 0, 0 and its slot. The code is 9 (A09) where they differ, 28 (A28) where there is no counterpart, else 0. */
 typedef struct {
     uint32_t number;
-    uint8_t state;
+    uint8_t differ;
     uint8_t code;
     size_t first;
     size_t partner;

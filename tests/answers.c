@@ -126,10 +126,10 @@ static void seal_message(void) {
     for (size_t at = 0; at < sizeof message; at += BLOCK) tetherbay_seal(message + at, BLOCK);
 }
 
-/* A party's first message: the trade of parties 1 and 2, at the highest values, and what it buys from party 3. */
-static void write_message(unsigned party) {
-    sender_block(message, book, party, 1, 2);
-    series_block(message + BLOCK, book, 1, 1, 2, 1, 9999900);
+/* A party's message: the trade of parties 1 and 2, at the highest values, and, unchanged since the first version, what it buys from party 3. */
+static void write_message(unsigned party, unsigned version) {
+    sender_block(message, book, party, version, 2);
+    series_block(message + BLOCK, book, 1, version, 2, 1, 9999900);
     series_block(message + 2 * BLOCK, book, 2, 1, party, 3, 0);
     seal_message();
 }
@@ -147,12 +147,12 @@ static void refused(const char *what, tetherbay_verdict expected) {
     seal_message();
     verdict(what, tetherbay_judge(book, sizeof book, message, sizeof message), expected);
     verdict(what, tetherbay_submit(book, sizeof book, message, sizeof message), expected);
-    write_message(2);
+    write_message(2, 1);
 }
 
 static void wrong_codes(void) {
     uint8_t *sender = message + 24, *in_party = message + 2 * BLOCK + 56, *out_party = message + 2 * BLOCK + 72;
-    write_message(2);
+    write_message(2, 1);
     sender[6] = 'a';
     refused("sender", (tetherbay_verdict){4, 78, 0, 0, 7});
     in_party[0] = 'a';
@@ -168,8 +168,20 @@ static void wrong_codes(void) {
     refused("neither the sender", (tetherbay_verdict){8, 22, 2, 0, 0});
 }
 
+static void mark(const char *what, unsigned party, const char *id, tetherbay_mark_answer expected) {
+    uint8_t sender[16], field[16] = {0};
+    memcpy(sender, eic(party), 16);
+    memcpy(field, id, strlen(id));
+    tetherbay_mark_answer m = tetherbay_mark(book, sizeof book, sender, 16, field, 16);
+    is_field(what, "number", m.number, expected.number);
+    is_field(what, "differ", m.differ, expected.differ);
+    is_field(what, "code", m.code, expected.code);
+    is_field(what, "first", m.first, expected.first);
+    is_field(what, "partner", m.partner, expected.partner);
+}
+
 static void submissions(void) {
-    write_message(1);
+    write_message(1, 1);
     verdict("submit", tetherbay_submit(book, sizeof book, message, sizeof message), (tetherbay_verdict){0, 1, 0, 0, 0});
     tetherbay_part p = tetherbay_series(message, sizeof message, 2);
     is("series, offset", p.offset, 2 * BLOCK);
@@ -182,26 +194,26 @@ static void submissions(void) {
     put(message + 2 * BLOCK + 108 + 4 * 98, 4, 0x80000000);
     refused("top bit", (tetherbay_verdict){11, 46, 2, 99, 0});
 
+    verdict("submit the other side", tetherbay_submit(book, sizeof book, message, sizeof message), (tetherbay_verdict){0, 1, 0, 0, 0});
+    mark("mark agreeing", 2, "SERIES-0001", (tetherbay_mark_answer){0, 0, 0, 0, 2});
+    mark("mark agreeing, the other side", 1, "SERIES-0001", (tetherbay_mark_answer){0, 0, 0, 0, 5});
+
+    write_message(2, 2);
+    put(message + BLOCK + 108 + 4 * 97, 4, 7);
     put(message + BLOCK + 108 + 4 * 99, 4, 7);
     seal_message();
-    verdict("submit the other side", tetherbay_submit(book, sizeof book, message, sizeof message), (tetherbay_verdict){0, 1, 0, 0, 0});
+    verdict("submit a change", tetherbay_submit(book, sizeof book, message, sizeof message), (tetherbay_verdict){0, 1, 0, 0, 0});
 }
 
-/* Slots 1 to 6: party 1 and its two series, party 2 and its two. They differ at position 100. */
+/* Slots 1 to 6: party 1 and its two series, party 2 and its two. They differ at positions 98 and 100. */
 static void readings(void) {
     uint8_t one[16], two[16], id[16] = "SERIES-0001", text[400];
     memcpy(one, eic(1), 16);
     memcpy(two, eic(2), 16);
-    tetherbay_mark_answer m = tetherbay_mark(book, sizeof book, two, 16, id, 16);
-    is("mark, number", m.number, 0);
-    is("mark, state", m.state, 3);
-    is("mark, code", m.code, 9);
-    is("mark, first", m.first, 100);
-    is("mark, partner", m.partner, 2);
-    is("mark, 23", tetherbay_mark(book, sizeof book, two, 16, id, 15).number, 23);
-    m = tetherbay_mark(book, sizeof book, two, 16, bytes("SERIES-0002\0\0\0\0"), 16);
-    is("mark alone, state", m.state, 1);
-    is("mark alone, code", m.code, 28);
+    mark("mark", 2, "SERIES-0001", (tetherbay_mark_answer){0, 2, 9, 98, 2});
+    mark("mark alone", 2, "SERIES-0002", (tetherbay_mark_answer){0, 0, 28, 0, 0});
+    mark("mark, 23", 2, "SERIES-0003", (tetherbay_mark_answer){23, 0, 0, 0, 0});
+    is("mark, a short id", tetherbay_mark(book, sizeof book, two, 16, id, 15).number, 23);
     tetherbay_part p = tetherbay_accepted_block(book, sizeof book, two, 16, id, 16);
     is("accepted block, offset", p.offset, 5 * BLOCK);
     is("accepted block, length", p.length, BLOCK);
@@ -223,8 +235,25 @@ static void readings(void) {
     is("final, 26", tetherbay_final(book, sizeof book, two, 16, one, 16, 1).number, 26);
     is("plain run, number", tetherbay_plain_run(book, sizeof book).number, 0);
     is("plain run, holds", tetherbay_plain_run(book, sizeof book).holds, true);
-    is("listing, length", tetherbay_listing(book, sizeof book, text, sizeof text), 46 + 2 * 73 + 2 * 71);
-    is("listing, a buffer too short", tetherbay_listing(book, sizeof book, text, 45), 0);
+    is("listing, length", tetherbay_listing(book, sizeof book, text, sizeof text), 47 + 2 * 72 + 2 * 71);
+    is("listing, a buffer too short", tetherbay_listing(book, sizeof book, text, 46), 0);
+}
+
+/* The book with a state in byte 104 of each series, all nets and the rest of the marks false, is converted to the book. */
+static void conversions(void) {
+    static uint8_t before[sizeof book];
+    memcpy(before, book, sizeof book);
+    is("convert a book of the present layout", tetherbay_convert(book, sizeof book), 1);
+    is("convert refused, a byte written", (uint64_t)memcmp(book, before, sizeof book), 0);
+    for (size_t slot = 1; slot <= 6; slot++) {
+        uint8_t *b = book + BLOCK * slot;
+        if (b[0] == 2) put(b + 104, 4, 3 | 7 << 8 | 5 << 16);
+        else memset(b + 108, 1, 4 * 100);
+        tetherbay_seal(b, BLOCK);
+    }
+    is("plain run, false", tetherbay_plain_run(book, sizeof book).holds, false);
+    is("convert", tetherbay_convert(book, sizeof book), 0);
+    is("converted", (uint64_t)memcmp(book, before, sizeof book), 0);
 }
 
 int main(void) {
@@ -232,6 +261,7 @@ int main(void) {
     openings();
     submissions();
     readings();
+    conversions();
     is("sound", tetherbay_sound(book, sizeof book), true);
     put(book + 6, 1, 1);
     tetherbay_seal(book, BLOCK);

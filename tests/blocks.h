@@ -1,4 +1,4 @@
-/* Blocks of messages for the C tests and the measurements. */
+/* Blocks of messages and books for the C tests and the measurements. */
 #ifndef BLOCKS_H
 #define BLOCKS_H
 
@@ -57,6 +57,15 @@ static inline void series_block(uint8_t *x, const uint8_t *day, unsigned k, unsi
     memcpy(x + 56, eic(buyer), 16);
     memcpy(x + 72, eic(seller), 16);
     for (unsigned p = 0; p < day[1]; p++) put(x + 108 + 4 * p, 4, base + p);
+}
+
+/* Whole blocks of a book as the old layout had them: byte 104 of a series is a state, here 1, 2 and 3 in turn. A conversion does not ask whether they are true. */
+static inline void old_layout(uint8_t *blocks, size_t length) {
+    for (size_t at = 0; at + BLOCK <= length; at += BLOCK) {
+        if (blocks[at] != 2) continue;
+        blocks[at + 104] = (uint8_t)(1 + at / BLOCK % 3);
+        tetherbay_seal(blocks + at, BLOCK);
+    }
 }
 
 #endif

@@ -2,9 +2,8 @@
    reads stands in pages that can't be written. A byte read or written outside a lent buffer ends the program with the name of the call. Books and messages
    are sound ones, nearly sound ones and random bytes of every length, so that refusals and acceptances of all depths occur. */
 #define _GNU_SOURCE
-#include "blocks.h"
+#include "../bench/full_book.h"
 #include <signal.h>
-#include <stdlib.h>
 #include <sys/mman.h>
 #include <unistd.h>
 
@@ -270,6 +269,31 @@ static void call_open(void) {
                    fields[1].length, receiver, fields[2].length);
 }
 
+static uint32_t conversions[2];
+
+/* What a conversion makes of the desk's old layout is the desk. */
+static void call_convert(void) {
+    uint8_t *b = lend_book(&written_book);
+    bool own = lent_length == desk_length && !memcmp(b, desk, desk_length);
+    if (!one_in(4)) old_layout(b, lent_length);
+    uint32_t number = tetherbay_convert(b, lent_length);
+    conversions[number]++;
+    if (!number && own && memcmp(b, desk, desk_length)) fail("a mark or a net that is not the desk's");
+}
+
+/* A book whose every slot is used, up to either edge. */
+static void convert_full_books(void) {
+    calling = "tetherbay_convert";
+    make_book(20, SLOTS);
+    for (int turn = 0; turn < 16; turn++) {
+        uint8_t *b = lend(&written_book, book, sizeof book);
+        old_layout(b, sizeof book);
+        if (tetherbay_convert(b, sizeof book)) fail("a full book refused");
+        if (memcmp(b, book, sizeof book)) fail("a mark or a net that is not the book's");
+        check_margin(&written_book);
+    }
+}
+
 static void call_clock(void) {
     uint8_t *b = lend_book(&written_book);
     tetherbay_clock(b, lent_length, (uint16_t)(one_in(4) ? below(65536) : below(12000)));
@@ -345,6 +369,7 @@ static const struct {
     {"tetherbay_reply", call_reply},
     {"tetherbay_sound", call_sound},
     {"tetherbay_open", call_open},
+    {"tetherbay_convert", call_convert},
     {"tetherbay_clock", call_clock},
     {"tetherbay_submit", call_submit},
     {"tetherbay_judge", call_judge},
@@ -380,6 +405,7 @@ int main(int argc, char **argv) {
     for (size_t f = 0; f < 3; f++) fields[f] = make_arena(PAGE, false);
     lend(&written_book, content, 0);
     lend(&written_text, content, 0);
+    convert_full_books();
     for (uint64_t round = 0; made < least; round++) {
         if (round % 60 == 0) open_desk();
         if (round % 60 == 40) tetherbay_clock(desk, desk_length, (uint16_t)(10080 + below(1500)));
@@ -398,6 +424,8 @@ int main(int argc, char **argv) {
         calling = "the messages of this run";
         if (!verdicts[v] && made >= 100000) fail("a verdict that never came");
     }
-    printf("\n%llu calls of %zu exports, no fault\n", (unsigned long long)made, exports);
+    printf("\nconversions 0 and 1, how often: %u %u\n", conversions[0], conversions[1]);
+    if ((!conversions[0] || !conversions[1]) && made >= 100000) fail("a conversion that never came");
+    printf("%llu calls of %zu exports, no fault\n", (unsigned long long)made, exports);
     return 0;
 }

@@ -68,6 +68,7 @@ static void call_quantity_print(void) { answer = tetherbay_quantity_print(999999
 static void call_reason_code(void) { answer = tetherbay_reason_code(30); }
 static void call_reply(void) { answer = tetherbay_reply(16).kind; }
 static void call_sound(void) { answer = tetherbay_sound(book, sizeof book); }
+static void call_convert(void) { answer = tetherbay_convert(book, sizeof book); }
 static void call_clock(void) { answer = tetherbay_clock(book, sizeof book, 10080).number; }
 static void call_judge(void) { answer = tetherbay_judge(book, sizeof book, message, message_length).number; }
 static void call_submit(void) { answer = tetherbay_submit(book, sizeof book, message, message_length).number; }
@@ -104,6 +105,7 @@ static struct {
     {"tetherbay_plain_run", call_plain_run, 0},
     {"tetherbay_judge", call_judge, 0},
     {"tetherbay_submit", call_submit, 0},
+    {"tetherbay_convert", call_convert, 0},
     {"tetherbay_clock", call_clock, 0},
     {"tetherbay_open", call_open, 0},
 };
@@ -122,17 +124,19 @@ static void make_message(unsigned sender, unsigned series, unsigned version) {
     for (size_t at = 0; at < message_length; at += BLOCK) tetherbay_seal(message + at, BLOCK);
 }
 
-static void submitted(uint32_t number) {
+static void answered(uint32_t number) {
     if (answer == number) return;
-    printf("stack: a submission is answered %llu, not %u\n", (unsigned long long)answer, number);
+    printf("stack: %s is answered %llu, not %u\n", calling, (unsigned long long)answer, number);
     exit(4);
 }
 
 static void make_all(size_t own) {
     for (size_t c = 0; c < CALLS; c++) {
         calling = calls[c].name;
+        if (calls[c].call == call_convert) old_layout(book, sizeof book);
         size_t used = used_by(calls[c].call) - own;
         if (used > calls[c].used) calls[c].used = used;
+        if (calls[c].call == call_convert) answered(0);
     }
 }
 
@@ -143,7 +147,7 @@ static void on_a_book(unsigned senders, bool room, size_t own) {
     make_message(senders, MOST_SERIES, 1);
     calling = "tetherbay_submit";
     size_t deepest = used_by(call_submit) - own;
-    submitted(room ? 0 : 17);
+    answered(room ? 0 : 17);
     make_message(senders, MOST_SERIES, room ? 2 : 1);
     memcpy(party, eic(room ? senders : 0), 16);
     memcpy(other, eic(1), 16);

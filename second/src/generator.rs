@@ -95,7 +95,7 @@ const WHOLE_CLIMB: u64 = 5;
 const BEYOND_CLIMB: usize = 4;
 
 /// Some faults find what they need only now and then, or are often hidden by others, so they come more often.
-const RARE_FAULTS: [Fault; 18] = [
+const RARE_FAULTS: [Fault; 21] = [
     Fault::Receiver,
     Fault::OtherMessageId,
     Fault::SeriesId,
@@ -111,6 +111,9 @@ const RARE_FAULTS: [Fault; 18] = [
     Fault::ClosedChanged,
     Fault::ClosedNew,
     Fault::SeriesVersionKept,
+    Fault::Absent,
+    Fault::Absent,
+    Fault::Absent,
     Fault::Absent,
     Fault::Absent,
     Fault::Absent,

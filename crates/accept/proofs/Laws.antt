@@ -1,5 +1,4 @@
 -- Laws that the proofs of this crate share.
-pub mod Lent
 pub mod Marking
 pub mod Laying
 pub mod Adding

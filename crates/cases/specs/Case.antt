@@ -56,9 +56,9 @@ toldBy v = v .number ∷ v .series ∷ v .position .0 ∷ v .code ∷ v .charact
 abbrev pub submission : (book message : Bytes) → List ℕ
 submission book message = once (λ m. toldBy (verdict book m)) message
 
--- number, state, code, first, partner
+-- number, count, code, first, partner
 abbrev pub toldByMark : MarkAnswer → List ℕ
-toldByMark a = a .number ∷ a .state ∷ a .code ∷ a .first .0 ∷ a .partner .0 ∷ []
+toldByMark a = a .number ∷ a .differ ∷ a .code ∷ a .first .0 ∷ a .partner .0 ∷ []
 
 abbrev pub markOf : (book sender id : Bytes) → List ℕ
 markOf book sender id = toldByMark (markAnswer book sender id)

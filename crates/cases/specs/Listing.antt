@@ -25,9 +25,9 @@ unfoldable pub ofBothFiled : Bytes → List Case
 ofBothFiled book =
     listing book
     gives text
-    "slot sender series in out state first partner\n2 14XBILANZGR-1--F TS0001 14XBG-EMPFANG--0 14XBILANZGR-1--F 3 2 4\n4 14XBG-EMPFANG--0 FPL01 14XBG-EMPFANG--0 14XBILANZGR-1--F 3 2 2\n"
-    ∷ markOf book seller (id "TS0001") gives (0 ∷ 3 ∷ 9 ∷ 2 ∷ 4 ∷ [])
-    ∷ markOf book buyer (id "FPL01") gives (0 ∷ 3 ∷ 9 ∷ 2 ∷ 2 ∷ [])
+    "slot sender series in out differ first partner\n2 14XBILANZGR-1--F TS0001 14XBG-EMPFANG--0 14XBILANZGR-1--F 1 2 4\n4 14XBG-EMPFANG--0 FPL01 14XBG-EMPFANG--0 14XBILANZGR-1--F 1 2 2\n"
+    ∷ markOf book seller (id "TS0001") gives (0 ∷ 1 ∷ 9 ∷ 2 ∷ 4 ∷ [])
+    ∷ markOf book buyer (id "FPL01") gives (0 ∷ 1 ∷ 9 ∷ 2 ∷ 2 ∷ [])
     ∷ toldByRun (plainRun book) gives (0 ∷ 1 ∷ [])
     -- −45,000 as a number of four bytes
     ∷ net book 1 2 gives (4294922296 ∷ [])
@@ -36,7 +36,7 @@ ofBothFiled book =
     -- the seller's quantity is final where the buyer has 44,000
     ∷ once (λ b. finalValue b seller buyer 2) (late book) gives kilowatts 45000
     -- the buyer files again, with 45,000 throughout: the marks of both sides are put right
-    ∷ once bothMarks (after book (head buyer 2 1 ++ purchase 2 (steady 45000))) gives (0 ∷ 2 ∷ 0 ∷ 0 ∷ 4 ∷ 0 ∷ 2 ∷ 0 ∷ 0 ∷ 2 ∷ [])
+    ∷ once bothMarks (after book (head buyer 2 1 ++ purchase 2 (steady 45000))) gives (0 ∷ 0 ∷ 0 ∷ 0 ∷ 4 ∷ 0 ∷ 0 ∷ 0 ∷ 0 ∷ 2 ∷ [])
     ∷ []
 
 pub listed : wrong (once ofBothFiled (bought 4)) ≡ []

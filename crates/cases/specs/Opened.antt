@@ -1,4 +1,4 @@
--- Every definition that a case computes through. To name one of these on an `unfolding` line opens its whole group; `paper` opens all.
+-- Every definition that a case computes through. To name one of these on an `unfolding` line opens its whole group; `paper` opens all but demand 3.
 use Rattle.laws.specs.Base.{ℕ}
 use Rattle.laws.specs.Tests.{_and_, _or_, neg, is, less, upto, below}
 use Rattle.laws.specs.Lists.{same, further, find, place, has, every, apart, count, keep, until, total}
@@ -6,16 +6,16 @@ use Rattle.laws.specs.Bytes.{part, written, value, little, number}
 use Rattle.laws.specs.Cut.{chunks, cut, join}
 use Rattle.laws.specs.Order.{first as firstRefusal, along}
 use Rattle.paper.specs.Check.{checkStep, checkFrom, checkOf, checkRight, sealed}
-use Rattle.paper.specs.Layout.{zeros, kind, nOf, lead, clockPlus10080, dayOfBook, area, receiver, dayZeros, version, idOf, seriesCount, sender, dayOfMessage, nets, net, senderZeros, businessType, contractType, sendersSlot, inArea, outArea, inParty, outParty, pair, agreement, mark, state, first, partner, quantities, entry, quantity, aboveN, senderZerosInMessage, seriesZerosInMessage, withClock, withSendersSlot, withMark, withNets}
+use Rattle.paper.specs.Layout.{zeros, kind, nOf, lead, clockPlus10080, dayOfBook, area, receiver, dayZeros, version, idOf, seriesCount, sender, dayOfMessage, nets, net, senderZeros, businessType, contractType, sendersSlot, inArea, outArea, inParty, outParty, pair, agreement, mark, differing, first, partner, quantities, entry, quantity, aboveN, senderZerosInMessage, seriesZerosInMessage, withClock, withSendersSlot, withMark, withNets}
 use Rattle.paper.specs.Ranges.{wholeBlocks, nAllowed, leadAllowed, clockAllowed, versionAllowed, countAllowed, quantityAllowed, netAllowed, quantitiesAllowed, netsAllowed}
 use Rattle.paper.specs.Ids.{digit, letter, hyphen, idCharacter, idText, idWellFormed, dayWellFormed}
 use Rattle.paper.specs.Eic.{characterValue, eicCharacter, weighted, eicSum, allowedInFront, sixteenthRight, eicNumber, eicNumberOfTwo, eicValid}
 use Rattle.paper.specs.Book.{dayBlock, slots, isFree, used, freeSlots, isSender, isSeries, numbered, isSenderBlockOf, slotOf, isSeriesOf, ownSender, ownSeries, idIs, pairIs, isSeriesOfPair}
-use Rattle.paper.specs.Sound.{dayFields, daySound, usedFirst, countSound, senderFields, senderDayAndNets, senderSound, partiesOf, ownerSound, partnerSound, seriesFields, seriesCodes, seriesValues, seriesSound, usedSound, sameSender, sameSeries, sound}
+use Rattle.paper.specs.Sound.{dayFields, daySound, usedFirst, countSound, senderFields, senderDayAndNets, senderSound, partiesOf, ownerSound, partnerSound, seriesFields, seriesCodes, seriesValues, seriesSound, usedSound, sameSender, sameSeries, differingSound, soundOver, differingAllowed, sound}
 use Rattle.paper.specs.Message.{headOf, seriesOf, headRight, seriesRight, messageRight, rule2, seriesNumbered}
 use Rattle.paper.specs.Rules.{_then_, broken, brokenBy, overPositions, rule1, rule3, rule4, rule5, idOrVersionBroken, rule6, withOtherPair, withOtherId, rule7, rule8, wrongCharacter, rule9, rule10, rule11, rule12, rule13, isOpen, closed, rule14, seriesVersion, rule15, absent, rule16, isNew, newBlocks, rule17, storedOf, headVerdict, quantityVerdict, closedVerdict, formVerdict, valuesVerdict, seriesVerdict, eachSeries, lastVerdict, judge, verdict}
 use Rattle.paper.specs.Codes.{table, codeIn, reasonCode, statusCode, replyKind, replyTo}
-use Rattle.paper.specs.Marks.{isCounterpart, counterpart, counterpartSlot, differenceFrom, firstDifference, markOf, markIn, stateCode}
+use Rattle.paper.specs.Marks.{isCounterpart, counterpart, counterpartSlot, differenceFrom, firstDifference, differences, markOf, markIn, stateOfMark, stateCode, markCode}
 use Rattle.paper.specs.Nets.{bought, sold, netOf, netsTo, netsOf}
 use Rattle.paper.specs.Acceptance.{slotFor, senderKept, replaced, renewed, fresh, placed, touched, remarked, usedAfter, accepted, submitted}
 use Rattle.paper.specs.Finals.{finalOf, held, isHeld, heldAt, finalIn, final}
@@ -23,8 +23,11 @@ use Rattle.paper.specs.Opening.{dayBlockOf, openingAllowed, openNumber, openAns
 use Rattle.paper.specs.Clock.{dayState, advanced, clockAnswer, clockMoved}
 use Rattle.paper.specs.Readings.{isStoredAs, storedAs, markFound, markAnswer, acceptedBlock}
 use Rattle.paper.specs.PlainRun.{markTrue, netsTrue, plainRun}
+use Rattle.paper.specs.Conversion.{stateAllowed, oldSound, conversionNumber, convertedBlock, usedConverted, converted, keptMessage, keptMessages}
 use Rattle.paper.specs.QuantityText.{leadingDigits, decimalFrom, worth, pastPoint, pastWhole, unsignedRead, pastMinus, quantityRead, lastDigits, widthOf, decimal, quantityText, quantityPrinted, printedInto}
 use Rattle.paper.specs.Listing.{text, line, seriesLine, seriesLines, header, listing}
+use Rattle.paper.specs.PlainRule.{orElse, latest, seriesOfLatest, nOfLatest, plainHeld, otherParty, plainMark, plainNets}
+use Rattle.paper.specs.Calls.{step, run}
 
 -- the crate of general definitions
 unfoldable pub general : ℕ
@@ -33,7 +36,7 @@ general = 0
 
 -- "Blocks"
 unfoldable pub blocks : ℕ
-unfolding checkStep checkFrom checkOf checkRight sealed zeros kind nOf lead clockPlus10080 dayOfBook area receiver dayZeros version idOf seriesCount sender dayOfMessage nets net senderZeros businessType contractType sendersSlot inArea outArea inParty outParty pair agreement mark state first partner quantities entry quantity aboveN senderZerosInMessage seriesZerosInMessage withClock withSendersSlot withMark withNets wholeBlocks nAllowed leadAllowed clockAllowed versionAllowed countAllowed quantityAllowed netAllowed quantitiesAllowed netsAllowed digit letter hyphen idCharacter idText idWellFormed dayWellFormed
+unfolding checkStep checkFrom checkOf checkRight sealed zeros kind nOf lead clockPlus10080 dayOfBook area receiver dayZeros version idOf seriesCount sender dayOfMessage nets net senderZeros businessType contractType sendersSlot inArea outArea inParty outParty pair agreement mark differing first partner quantities entry quantity aboveN senderZerosInMessage seriesZerosInMessage withClock withSendersSlot withMark withNets wholeBlocks nAllowed leadAllowed clockAllowed versionAllowed countAllowed quantityAllowed netAllowed quantitiesAllowed netsAllowed digit letter hyphen idCharacter idText idWellFormed dayWellFormed
 blocks = 0
 
 -- "EIC"
@@ -43,7 +46,7 @@ eic = 0
 
 -- "Sound book"
 unfoldable pub soundBook : ℕ
-unfolding dayBlock slots isFree used freeSlots isSender isSeries numbered isSenderBlockOf slotOf isSeriesOf ownSender ownSeries dayFields daySound usedFirst countSound senderFields senderDayAndNets senderSound partiesOf ownerSound partnerSound seriesFields seriesCodes seriesValues seriesSound usedSound sameSender sameSeries sound
+unfolding dayBlock slots isFree used freeSlots isSender isSeries numbered isSenderBlockOf slotOf isSeriesOf ownSender ownSeries dayFields daySound usedFirst countSound senderFields senderDayAndNets senderSound partiesOf ownerSound partnerSound seriesFields seriesCodes seriesValues seriesSound usedSound sameSender sameSeries differingSound soundOver differingAllowed sound
 soundBook = 0
 
 -- "Submission: order of checks"
@@ -53,13 +56,18 @@ orderOfChecks = 0
 
 -- "Marks and finals", and what an acceptance writes
 unfoldable pub marksAndFinals : ℕ
-unfolding isCounterpart counterpart counterpartSlot differenceFrom firstDifference markOf markIn stateCode bought sold netOf netsTo netsOf slotFor senderKept replaced renewed fresh placed isSeriesOfPair touched remarked usedAfter accepted submitted finalOf held isHeld heldAt finalIn final
+unfolding isCounterpart counterpart counterpartSlot differenceFrom firstDifference differences markOf markIn stateOfMark stateCode markCode bought sold netOf netsTo netsOf slotFor senderKept replaced renewed fresh placed isSeriesOfPair touched remarked usedAfter accepted submitted finalOf held isHeld heldAt finalIn final
 marksAndFinals = 0
 
 -- "Other calls"
 unfoldable pub otherCalls : ℕ
-unfolding dayBlockOf openingAllowed openNumber openAnswer opened dayState advanced clockAnswer clockMoved isStoredAs storedAs markFound markAnswer acceptedBlock markTrue netsTrue plainRun leadingDigits decimalFrom worth pastPoint pastWhole unsignedRead pastMinus quantityRead lastDigits widthOf decimal quantityText quantityPrinted printedInto text line seriesLine seriesLines header listing
+unfolding dayBlockOf openingAllowed openNumber openAnswer opened dayState advanced clockAnswer clockMoved isStoredAs storedAs markFound markAnswer acceptedBlock markTrue netsTrue plainRun stateAllowed oldSound conversionNumber convertedBlock usedConverted converted keptMessage keptMessages leadingDigits decimalFrom worth pastPoint pastWhole unsignedRead pastMinus quantityRead lastDigits widthOf decimal quantityText quantityPrinted printedInto text line seriesLine seriesLines header listing
 otherCalls = 0
+
+-- demand 3, which few cases need
+unfoldable pub demand3 : ℕ
+unfolding orElse latest seriesOfLatest nOfLatest plainHeld otherParty plainMark plainNets step run
+demand3 = 0
 
 unfoldable pub paper : ℕ
 unfolding general blocks eic soundBook orderOfChecks marksAndFinals otherCalls

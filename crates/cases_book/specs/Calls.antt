@@ -4,7 +4,7 @@ use Rattle.paper.specs.declared.ClockAnswer.{ClockAnswer}
 use Rattle.paper.specs.Layout.{Bytes}
 use Rattle.paper.specs.Message.{seriesNumbered}
 use Rattle.paper.specs.Codes.{reasonCode, statusCode, acknowledgement, uninterpretableMessage, deskNotice, replyTo}
-use Rattle.paper.specs.Marks.{stateCode}
+use Rattle.paper.specs.Marks.{stateCode, markCode}
 use Rattle.paper.specs.Opening.{openNumber, opened}
 use Rattle.paper.specs.Clock.{clockAnswer, clockMoved}
 use Rattle.paper.specs.Readings.{acceptedBlock}
@@ -64,6 +64,8 @@ ofCodes =
     ∷ replied 16 gives (acknowledgement ∷ 2 ∷ 52 ∷ [])
     ∷ replied 17 gives (deskNotice ∷ 0 ∷ 0 ∷ [])
     ∷ map stateCode (1 ∷ 2 ∷ 3 ∷ []) gives (28 ∷ 0 ∷ 9 ∷ [])
+    -- by count and partner: alone, agree, differ; a count without a partner, which no true mark has
+    ∷ (markCode 0 0 ∷ markCode 0 4 ∷ markCode 1 4 ∷ markCode 96 4 ∷ markCode 1 0 ∷ []) gives (28 ∷ 0 ∷ 9 ∷ 9 ∷ 9 ∷ [])
     ∷ []
 
 pub codes : wrong ofCodes ≡ []
@@ -127,7 +129,7 @@ clocks = refl
 -- the seller alone has filed; positions 1 to 4 are closed
 unfoldable pub ofSeller : Bytes → List Case
 ofSeller book =
-    markOf book seller (id "TS0001") gives (0 ∷ 1 ∷ 28 ∷ 0 ∷ 0 ∷ [])
+    markOf book seller (id "TS0001") gives (0 ∷ 0 ∷ 28 ∷ 0 ∷ 0 ∷ [])
     ∷ markOf book seller (id "FPL01") gives (23 ∷ 0 ∷ 0 ∷ 0 ∷ 0 ∷ [])
     ∷ markOf book stranger (id "TS0001") gives (23 ∷ 0 ∷ 0 ∷ 0 ∷ 0 ∷ [])
     ∷ markOf book (take 15 seller) (id "ts0001") gives (23 ∷ 0 ∷ 0 ∷ 0 ∷ 0 ∷ [])

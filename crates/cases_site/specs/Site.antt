@@ -13,6 +13,7 @@ use Rattle.paper.specs.Finals.{final}
 use Rattle.paper.specs.Readings.{acceptedBlock}
 use Rattle.paper.specs.Rules.{verdict}
 use Rattle.paper.specs.Acceptance.{submitted}
+use Rattle.paper.specs.Conversion.{conversionNumber, converted}
 use Rattle.paper.specs.Listing.{text, listing}
 use Rattle.desk_text.specs.Put.{within}
 use Rattle.desk_text.specs.Numbers.{numberRead, minuteRead}
@@ -63,14 +64,16 @@ came book command argument more =
     (cond (is command 9) ((verdict book (messageOf argument)) .number)
     (cond (is command 10) (eicNumber argument)
     (cond (is command 11) ((quantityRead argument) .number)
-    (checkOf (blockWith argument more)))))))))
+    (cond (is command 13) (conversionNumber book)
+    (checkOf (blockWith argument more))))))))))
 
 unfoldable pub bookAfter : (book : Bytes) (command : ℕ) (argument more : Bytes) → Bytes
 bookAfter book command argument more =
     cond (is command 1) (opened book (opening argument))
     (cond (is command 2) (clockMoved book (minuteIn argument))
     (cond (is command 3) (submitted book (messageOf (sellersText argument more)))
-    (cond (is command 9) (submitted book (messageOf argument)) book)))
+    (cond (is command 9) (submitted book (messageOf argument))
+    (cond (is command 13) (converted book) book))))
 
 -- ---- a row: word, two arguments, the number expected, what is told
 
@@ -104,9 +107,9 @@ tableRun book table = rowsFrom (length table) true book table
 
 -- ---- the listing, which stands behind a table that files what is listed
 
--- as much of it as a buffer of 5,590 bytes shows
+-- as much of it as a buffer of 5,591 bytes shows
 unfoldable pub shown : (book : Bytes) → Bytes
-shown book = part 0 (textLength (listing book) 5590) (textInto (listing book) (replicate 5590 0))
+shown book = part 0 (textLength (listing book) 5591) (textInto (listing book) (replicate 5591 0))
 
 unfoldable pub rightWithPage : (page : Bytes) → Bool × Bytes → Bool
 rightWithPage page run = run .0 and same page (shown (run .1))

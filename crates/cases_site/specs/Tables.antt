@@ -87,15 +87,18 @@ closed =
     ∷ text "submit|message BILANZ\nversion 2|series TS0002\narea 10YAT-APG------L\nin 14XBILANZGR-1--F\nout 14XBG-EMPFANG--0\n4 0\n|0|new series with 0 kW there"
     ∷ [])
 
--- the listing's example: the buyer files the same as the seller but for 44,000 kW at position 2
+-- the listing's example: the buyer files the same as the seller but for 44,000 kW at position 2. A count of 0 is no state of the old layout, a count of 1 passes
+-- as one: then every mark is written anew
 unfoldable pub listed : Bytes
 listed =
     rows
     (text "open|45||0|opening"
     ∷ text "submit|message BILANZ\nversion 1||0|the seller's message"
+    ∷ text "convert|||1|conversion, a series alone: its count 0 is no old state"
     ∷ text "message|message EMPFANG\nversion 1\nsender 14XBG-EMPFANG--0\nreceiver 14XAT-APCS-----Q\nday 20190131\nn 96\nseries FPL01\narea 10YAT-APG------L\nin 14XBG-EMPFANG--0\nout 14XBILANZGR-1--F\n1-96 45\n2 44\n||0|the buyer's message"
+    ∷ text "convert|||0|conversion, both counts 1"
     ∷ [])
 
 -- the listing then
 unfoldable pub page : Bytes
-page = text "slot sender series in out state first partner\n2 14XBILANZGR-1--F TS0001 14XBG-EMPFANG--0 14XBILANZGR-1--F 3 2 4\n4 14XBG-EMPFANG--0 FPL01 14XBG-EMPFANG--0 14XBILANZGR-1--F 3 2 2\n"
+page = text "slot sender series in out differ first partner\n2 14XBILANZGR-1--F TS0001 14XBG-EMPFANG--0 14XBILANZGR-1--F 1 2 4\n4 14XBG-EMPFANG--0 FPL01 14XBG-EMPFANG--0 14XBILANZGR-1--F 1 2 2\n"

@@ -1,9 +1,10 @@
-// The reason code of each number that a call can answer, the reply to a submission, and the code of a mark's state.
+// The reason code of each number that a call can answer, the reply to a submission, and the state and the code of a mark.
 ghost use mathlib.Core.Path.{_≡_};
 ghost use Rattle.laws.specs.Table.{Table};
 ghost use Rattle.paper.specs.Codes.{reasonCode, statusCode, replyKind, replyTo};
-ghost use Rattle.paper.specs.Marks.{stateCode};
+ghost use Rattle.paper.specs.Marks.{stateOfMark, stateCode, markCode};
 use paper::Reply;
+use paper::Slot;
 
 // The one fixed table: at a number its code, 53 for A53, 0 where it has none. 0 is the acceptance; 1, 2, 17 and the numbers of the
 // other calls have none; 30 and 31 are the refusals of quantity text.
@@ -101,6 +102,19 @@ pub fn reply(number: u32) -> Reply
     }
 }
 
+// No byte of the book holds the state: 1 where the series stands alone, 2 where its counterpart agrees, 3 where it differs.
+pub fn state_of_mark(differing: u8, partner: Slot) -> u8
+    ensures { λ r. ⌜ r ≡ stateOfMark differing (partner .0) ⌝ }
+{
+    if differing != 0 {
+        return 3;
+    }
+    if partner.0 == 0 {
+        return 1;
+    }
+    2
+}
+
 // A28 for a series that stands alone, A09 for one whose counterpart differs.
 pub fn state_code(state: u8) -> u8
     ensures { λ r. ⌜ r ≡ stateCode state ⌝ }
@@ -112,4 +126,10 @@ pub fn state_code(state: u8) -> u8
         return 9;
     }
     0
+}
+
+pub fn mark_code(differing: u8, partner: Slot) -> u8
+    ensures { λ r. ⌜ r ≡ markCode differing (partner .0) ⌝ }
+{
+    state_code(state_of_mark(differing, partner))
 }

@@ -104,7 +104,7 @@ fn closed_right() -> bool
     )
 }
 
-// The buyer files the same as the seller but for 44,000 kW at position 2.
+// The buyer files the same as the seller but for 44,000 kW at position 2. A count of 0 is no state of the old layout; 1 passes as one, and the marks are written anew.
 fn listed_right() -> bool
     ensures { λ r. ⌜ r ≡ true ⌝ }
 {
@@ -113,7 +113,9 @@ fn listed_right() -> bool
         &mut book,
         b"open|45||0|opening;\
         submit|message BILANZ\nversion 1||0|the seller's message;\
-        message|message EMPFANG\nversion 1\nsender 14XBG-EMPFANG--0\nreceiver 14XAT-APCS-----Q\nday 20190131\nn 96\nseries FPL01\narea 10YAT-APG------L\nin 14XBG-EMPFANG--0\nout 14XBILANZGR-1--F\n1-96 45\n2 44\n||0|the buyer's message;",
+        convert|||1|conversion, a series alone: its count 0 is no old state;\
+        message|message EMPFANG\nversion 1\nsender 14XBG-EMPFANG--0\nreceiver 14XAT-APCS-----Q\nday 20190131\nn 96\nseries FPL01\narea 10YAT-APG------L\nin 14XBG-EMPFANG--0\nout 14XBILANZGR-1--F\n1-96 45\n2 44\n||0|the buyer's message;\
+        convert|||0|conversion, both counts 1;",
     );
     line::both(right, book::listed(&book))
 }

@@ -11,6 +11,7 @@ use Rattle.paper.specs.Rules.{verdict}
 use Rattle.paper.specs.Acceptance.{submitted}
 use Rattle.paper.specs.Opening.{Opening, openAnswer, opened}
 use Rattle.paper.specs.Clock.{clockAnswer, clockMoved}
+use Rattle.paper.specs.Conversion.{conversionNumber, converted}
 use Rattle.paper.specs.Readings.{markAnswer, acceptedBlock}
 use Rattle.paper.specs.Finals.{final}
 use Rattle.paper.specs.PlainRun.{plainRun}
@@ -19,11 +20,11 @@ use Rattle.listing_text.specs.Text.{textLength, textInto}
 use Rattle.desk_text.specs.Put.{Put}
 use Rattle.desk_text.specs.Words.{wordNumbered}
 use Rattle.desk_text.specs.Arguments.{idField, byteValue, wordValue}
-use Rattle.desk_lines.specs.Lines.{verdictLine, openLine, clockLine, markLine, blockLine, finalLine, plainLine, eicLine, quantityLine}
+use Rattle.desk_lines.specs.Lines.{verdictLine, openLine, clockLine, conversionLine, markLine, blockLine, finalLine, plainLine, eicLine, quantityLine}
 use Rattle.desk_answers.specs.declared.Told.{Told}
 use Rattle.desk_answers.specs.declared.Numbers.{Numbers}
 use Rattle.desk_answers.specs.declared.Change.{Change}
-use Rattle.desk_answers.specs.declared.Change.the-variants.{Open, Clock, Submit}
+use Rattle.desk_answers.specs.declared.Change.the-variants.{Open, Clock, Submit, Convert}
 use Rattle.desk_answers.specs.declared.Question.{Question}
 use Rattle.desk_answers.specs.declared.Question.the-variants.{Mark, Block, Final, Plain, List, Eic, Kw}
 
@@ -53,16 +54,19 @@ unfoldable pub changeNumber : (what : Change) (book given : Bytes) → ℕ
 changeNumber (Open numbers) book words = (openAnswer book (opening numbers words)) .number
 changeNumber (Clock minute) book given = (clockAnswer book (minute .0)) .number
 changeNumber Submit book message = (verdict book message) .number
+changeNumber Convert book given = conversionNumber book
 
 unfoldable pub changeLine : (what : Change) (book given : Bytes) → Bytes
 changeLine (Open numbers) book words = openLine (openAnswer book (opening numbers words)) (wordNumbered 7 words) (wordNumbered 8 words)
 changeLine (Clock minute) book given = clockLine (clockAnswer book (minute .0))
 changeLine Submit book message = verdictLine (verdict book message) (blockNamed message (verdict book message))
+changeLine Convert book given = conversionLine (conversionNumber book)
 
 unfoldable pub changed : (what : Change) (book given : Bytes) → Bytes
 changed (Open numbers) book words = opened book (opening numbers words)
 changed (Clock minute) book given = clockMoved book (minute .0)
 changed Submit book message = submitted book message
+changed Convert book given = converted book
 
 -- ---- what is asked
 

@@ -4,13 +4,15 @@ ghost use Rattle.paper.specs.Rules.{verdict};
 ghost use Rattle.paper.specs.Acceptance.{submitted};
 ghost use Rattle.paper.specs.Opening.{openAnswer, opened};
 ghost use Rattle.paper.specs.Clock.{clockAnswer, clockMoved};
-ghost use Rattle.desk_lines.specs.Lines.{verdictLine, openLine, clockLine};
+ghost use Rattle.paper.specs.Conversion.{conversionNumber, converted};
+ghost use Rattle.desk_lines.specs.Lines.{verdictLine, openLine, clockLine, conversionLine};
 ghost use Rattle.desk_text.specs.Words.{wordNumbered};
 ghost use Rattle.desk_answers.specs.Answers.{Tells, opening, blockNamed, changeNumber, changeLine, changed};
 use crate::Change;
 use crate::Numbers;
 use crate::Told;
 use desk_lines::clock_line;
+use desk_lines::conversion_line;
 use desk_lines::open_line;
 use desk_lines::verdict_line;
 use desk_text::arguments::byte_value;
@@ -63,7 +65,15 @@ fn submit_told(book: &mut [u8], message: &[u8], line: &mut [u8]) -> Told
     }
 }
 
-// What is given is the words of an opening, the message of a submission, and nothing to the clock.
+fn convert_told(book: &mut [u8], line: &mut [u8]) -> Told
+    ensures { λ r. ⌜ Tells (conversionNumber (now (book .entry))) (conversionLine (conversionNumber (now (book .entry)))) r (now (line .entry)) (now (line .exit)) × (now (book .exit) ≡ converted (now (book .entry))) ⌝ }
+{
+    let number = conversion::convert(book);
+    let length = conversion_line(line, number);
+    Told { number, length }
+}
+
+// What is given is the words of an opening, the message of a submission, and nothing to the clock and to a conversion.
 pub fn change(what: Change, book: &mut [u8], given: &[u8], line: &mut [u8]) -> Told
     ensures { λ r. ⌜ Tells (changeNumber what (now (book .entry)) (now (given .entry))) (changeLine what (now (book .entry)) (now (given .entry))) r (now (line .entry)) (now (line .exit)) × (now (book .exit) ≡ changed what (now (book .entry)) (now (given .entry))) ⌝ }
 {
@@ -71,5 +81,6 @@ pub fn change(what: Change, book: &mut [u8], given: &[u8], line: &mut [u8]) -> T
         Change::Open(numbers) => open_told(book, numbers, given, line),
         Change::Clock(minute) => clock_told(book, minute, line),
         Change::Submit => submit_told(book, given, line),
+        Change::Convert => convert_told(book, line),
     }
 }

@@ -256,7 +256,7 @@ pub fn change(what: Change, path: &[u8], given: &[u8]) {
 // ---- a reading
 
 fn answer_in(question: Question, book: &[u8], words: &[u8]) {
-    let mut line = [0u8; 5590];
+    let mut line = [0u8; 5591];
     let k = desk_answers::questions::answer(question, book, words, &mut line);
     say(part_of(&line, 0, k));
 }

@@ -11,10 +11,10 @@ use Rattle.paper.specs.declared.MarkAnswer.{MarkAnswer}
 use Rattle.paper.specs.declared.FinalAnswer.{FinalAnswer}
 use Rattle.paper.specs.declared.PlainRunAnswer.{PlainRunAnswer}
 use Rattle.paper.specs.declared.QuantityRead.{QuantityRead}
-use Rattle.paper.specs.Layout.{Bytes, Block, nOf, version, idOf, inParty, outParty, state, first, partner, quantities, entry}
+use Rattle.paper.specs.Layout.{Bytes, Block, nOf, version, idOf, inParty, outParty, differing, first, partner, quantities, entry}
 use Rattle.paper.specs.Ids.{idText}
 use Rattle.paper.specs.Codes.{reasonCode, replyTo}
-use Rattle.paper.specs.Marks.{stateCode}
+use Rattle.paper.specs.Marks.{stateOfMark, markCode}
 use Rattle.paper.specs.Listing.{text}
 use Rattle.paper.specs.QuantityText.{quantityText}
 use Rattle.desk_text.specs.Numbers.{minuteText}
@@ -67,15 +67,21 @@ dayText day = worded (text ": n ") (day .n) ++ worded (text " lead ") (day .lead
 unfoldable pub clockLine : (a : ClockAnswer) → Bytes
 clockLine a = answerOf (a .number) ++ cond (is (a .number) 1) (text "\n") (dayText (a .state))
 
--- A28 or A09 where a state has a code, and what it means
-unfoldable pub stateText : (state code : ℕ) → Bytes
-stateText state code = codeText code ++ text ", " ++ stateMeaning state
+-- what was done; the book is judged as one of the old layout, and 1 does not say that it is damaged
+unfoldable pub conversionLine : (number : ℕ) → Bytes
+conversionLine number =
+    answerOf number ++ cond (is number 0) (text ": every mark and net is written by the plain rule\n") (text " in the old layout; where plain says yes it needs no conversion\n")
 
-unfoldable pub markText : (state first partner code : ℕ) → Bytes
-markText state first partner code = worded (text "state ") state ++ worded (text " first ") first ++ worded (text " partner ") partner ++ stateText state code
+-- A28 or A09 where a mark has a code, and what its state means
+unfoldable pub stateText : (differing partner : ℕ) → Bytes
+stateText differing partner = codeText (markCode differing partner) ++ text ", " ++ stateMeaning (stateOfMark differing partner)
+
+unfoldable pub markText : (differing first partner : ℕ) → Bytes
+markText differing first partner =
+    worded (text "differ ") differing ++ worded (text " first ") first ++ worded (text " partner ") partner ++ stateText differing partner
 
 unfoldable pub markLine : (a : MarkAnswer) → Bytes
-markLine a = telling (a .number) (text ": " ++ markText (a .state) (a .first .0) (a .partner .0) (a .code) ++ text "\n")
+markLine a = telling (a .number) (text ": " ++ markText (a .differ) (a .first .0) (a .partner .0) ++ text "\n")
 
 unfoldable pub finalLine : (a : FinalAnswer) → Bytes
 finalLine a = telling (a .number) (text ": " ++ megawatts (a .kilowatts) ++ text " MW\n")
@@ -103,7 +109,7 @@ unfoldable pub nameText : (x : Block) → Bytes
 nameText x = (text ": series " ++ idText (idOf x)) ++ worded (text " version ") (version x) ++ (text " in " ++ inParty x) ++ (text " out " ++ outParty x)
 
 unfoldable pub seriesText : (x : Block) → Bytes
-seriesText x = nameText x ++ text " " ++ markText (state x) (first x) (partner x) (stateCode (state x))
+seriesText x = nameText x ++ text " " ++ markText (differing x) (first x) (partner x)
 
 -- number is that of the mark's call, which tells an unsound book from an unknown series
 unfoldable pub blockLine : (number : ℕ) (x : Block) → Bytes

@@ -2,11 +2,11 @@
 // Each function puts its piece at a place of the line and answers the place behind it.
 ghost use mathlib.Core.List.{_∷_, _++_};
 ghost use Prim.Native.Nat.{_≤_, _<_};
-ghost use Rattle.paper.specs.Layout.{state, first, partner, entry};
+ghost use Rattle.paper.specs.Layout.{entry};
 ghost use Rattle.paper.specs.Listing.{text};
 ghost use Rattle.desk_text.specs.Put.{Put};
 ghost use Rattle.desk_lines.specs.Lines.{status, reason, answerText, answerOf, megawatts, stateText, markText, dayText, nameText, seriesText, quantitiesText};
-ghost use Rattle.desk_lines.specs.Lines.{verdictLine, openLine, clockLine, markLine, finalLine, plainLine, quantityLine, eicLine, blockLine};
+ghost use Rattle.desk_lines.specs.Lines.{verdictLine, openLine, clockLine, conversionLine, markLine, finalLine, plainLine, quantityLine, eicLine, blockLine};
 use desk_faults::put_fault;
 use desk_faults::put_opening_fault;
 use desk_faults::put_verdict_fault;
@@ -26,7 +26,9 @@ use paper::FinalAnswer;
 use paper::MarkAnswer;
 use paper::OpenAnswer;
 use paper::PlainRunAnswer;
+use paper::Position;
 use paper::QuantityRead;
+use paper::Slot;
 use paper::Verdict;
 
 fn put_status(line: &mut [u8], number: u32) -> usize
@@ -129,21 +131,41 @@ pub fn clock_line(line: &mut [u8], answer: ClockAnswer) -> usize
     put_day(line, a, answer.state)
 }
 
-fn put_state(line: &mut [u8], at: usize, state: u8, code: u8) -> usize
-    ensures { λ r. ⌜ Put at (stateText state code) r (now (line .entry)) (now (line .exit)) ⌝ }
+// What was done, or in which layout the book is judged.
+pub fn conversion_line(line: &mut [u8], number: u32) -> usize
+    ensures { λ r. ⌜ Put 0 (conversionLine number) r (now (line .entry)) (now (line .exit)) ⌝ }
 {
-    let a = put_code(line, at, code);
+    let a = put_answer_of(line, number);
+    if number == 0 {
+        return put(
+            line,
+            a,
+            b": every mark and net is written by the plain rule\n",
+        );
+    }
+    put(
+        line,
+        a,
+        b" in the old layout; where plain says yes it needs no conversion\n",
+    )
+}
+
+fn put_state(line: &mut [u8], at: usize, differing: u8, partner: Slot) -> usize
+    ensures { λ r. ⌜ Put at (stateText differing (partner .0)) r (now (line .entry)) (now (line .exit)) ⌝ }
+{
+    let state = codes::state_of_mark(differing, partner);
+    let a = put_code(line, at, codes::state_code(state));
     let b = put(line, a, b", ");
     put_state_meaning(line, b, state as usize)
 }
 
-fn put_mark(line: &mut [u8], at: usize, state: u8, first: usize, partner: usize, code: u8) -> usize
-    ensures { λ r. ⌜ Put at (markText state first partner code) r (now (line .entry)) (now (line .exit)) ⌝ }
+fn put_mark(line: &mut [u8], at: usize, differing: u8, first: Position, partner: Slot) -> usize
+    ensures { λ r. ⌜ Put at (markText differing (first .0) (partner .0)) r (now (line .entry)) (now (line .exit)) ⌝ }
 {
-    let a = put_worded(line, at, b"state ", state as usize);
-    let b = put_worded(line, a, b" first ", first);
-    let c = put_worded(line, b, b" partner ", partner);
-    put_state(line, c, state, code)
+    let a = put_worded(line, at, b"differ ", differing as usize);
+    let b = put_worded(line, a, b" first ", first.0);
+    let c = put_worded(line, b, b" partner ", partner.0);
+    put_state(line, c, differing, partner)
 }
 
 pub fn mark_line(line: &mut [u8], answer: MarkAnswer) -> usize
@@ -154,14 +176,7 @@ pub fn mark_line(line: &mut [u8], answer: MarkAnswer) -> usize
         return put_end(line, a);
     }
     let b = put(line, a, b": ");
-    let c = put_mark(
-        line,
-        b,
-        answer.state,
-        answer.first.0,
-        answer.partner.0,
-        answer.code,
-    );
+    let c = put_mark(line, b, answer.differ, answer.first, answer.partner);
     put_end(line, c)
 }
 
@@ -231,14 +246,12 @@ fn put_series(line: &mut [u8], at: usize, x: &[u8]) -> usize
 {
     let a = put_name(line, at, x);
     let b = put(line, a, b" ");
-    let state = layout::state(x);
     put_mark(
         line,
         b,
-        state,
-        layout::first(x).0,
-        layout::partner(x).0,
-        codes::state_code(state),
+        layout::differing(x),
+        layout::first(x),
+        layout::partner(x),
     )
 }
 

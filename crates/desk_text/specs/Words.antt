@@ -104,4 +104,5 @@ commands =
     ∷ text "eic"
     ∷ text "kw"
     ∷ text "commission"
+    ∷ text "convert"
     ∷ [])

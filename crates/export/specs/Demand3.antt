@@ -1,5 +1,5 @@
--- Demand 3, as each call keeps it or reads it. `book` is a book that was opened and that only these calls have altered; `messages` are those accepted since its
--- last opening, oldest first. A contract that cites these words is read alone: what one call leaves is what the next one takes up.
+-- Demand 3, as each call keeps it or reads it. `book` is a book that was opened or converted and that only these calls have altered; `messages` are those accepted since
+-- then, oldest first, behind those that the conversion found kept. A contract that cites these words is read alone: what one call leaves is what the next one takes up.
 use mathlib.Core.Path.{_≡_}
 use mathlib.Core.Bool.{true, cond}
 use mathlib.Core.Option.{Option, none, some, Option·map, Option·getD}
@@ -14,13 +14,25 @@ use Rattle.paper.specs.Layout.{Bytes, Block, nets, pair}
 use Rattle.paper.specs.Book.{dayBlock, used, isSenderBlockOf, slotOf, isSeriesOfPair}
 use Rattle.paper.specs.Finals.{final}
 use Rattle.paper.specs.Readings.{markAnswer}
+use Rattle.paper.specs.Conversion.{keptMessages}
 use Rattle.paper.specs.PlainRule.{otherParty, plainNets}
 use Rattle.promises.specs.Laws.Invariant.{Invariant}
-use Rattle.promises.specs.Words.{content, finalGiven, plainStoredAs, plainMarkAnswer, plainFinal}
+use Rattle.promises.specs.Words.{content, finalGiven, plainContent, plainStoredAs, plainMarkAnswer, plainFinal}
 
--- marks and nets are what the plain rule gives on the messages; the slot that a mark names is told the rule. `invariant` is what makes this hold after the next call
+-- the slot that a mark names, of the series x that e last sent under an id: it holds the series of the other party with the same pair; where there is none it is 0,
+-- which no slot is
+unfoldable pub Partner : (book : Bytes) (messages : List Bytes) (e : Bytes) (id : Bytes) (slot : ℕ) → Type 0
+Partner book messages e id slot =
+    (x : Block) → plainStoredAs messages e id ≡ some x
+    → nth (used book) slot ≡ find (isSeriesOfPair (slotOf (used book) (otherParty e (pair x))) (pair x)) (used book)
+
+-- the series kept under each sender and pair are those of its latest message, sender's slot, mark and check apart; marks and nets are what the plain rule gives on the
+-- messages. The slot that a mark names is told the rule: by `partners` a series whose counterpart agrees is told from one that stands alone. `invariant` is what makes
+-- all this hold after the next call
 pub record Demand3 (book : Bytes) (messages : List Bytes) : Type 0 where
+  pub series : (e parties : Bytes) → Option·map content (find (isSeriesOfPair (slotOf (used book) e) parties) (used book)) ≡ plainContent messages e parties
   pub marks : (e id : Bytes) → markAnswer book e id ≡ plainMarkAnswer messages e id ((markAnswer book e id) .partner .0)
+  pub partners : (e id : Bytes) → Partner book messages e id ((markAnswer book e id) .partner .0)
   pub senders-nets : (e : Bytes) → Option·map nets (find (isSenderBlockOf e) (used book)) ≡ plainNets messages e
   pub invariant : Invariant book messages
 
@@ -35,6 +47,12 @@ FinalsStay before after = (seller buyer : Bytes) (position kilowatts : ℕ) → 
 unfoldable pub OpeningKeeps : (before : Bytes) (number : ℕ) (after : Bytes) → Type 0
 OpeningKeeps before number after = (number ≡ 0 → Demand3 after []) × ((number ≡ 0 → ⊥) → after ≡ before)
 
+-- a conversion that is accepted begins with one message for each sender, made of the blocks then kept, whatever marks and nets said before; a refused one leaves all as
+-- it was; finals that the book gave before stay
+unfoldable pub ConversionKeeps : (before : Bytes) (number : ℕ) (after : Bytes) → Type 0
+ConversionKeeps before number after =
+    (number ≡ 0 → Demand3 after (keptMessages (used after))) × ((number ≡ 0 → ⊥) → after ≡ before) × FinalsStay before after
+
 -- a clock move, accepted or not, is no message
 unfoldable pub ClockKeeps : (before : Bytes) (after : Bytes) → Type 0
 ClockKeeps before after = (messages : List Bytes) → Demand3 before messages → Demand3 after messages × FinalsStay before after
@@ -46,12 +64,10 @@ SubmissionKeeps before message number after =
 
 -- ---- calls that read: e is the sender
 
--- the mark is the plain rule's, and the slot that it names is that of the other party's series y with the same pair
+-- the mark is the plain rule's, and the slot that it names is the counterpart's
 unfoldable pub MarkByMessages : (book : Bytes) (e : Bytes) (id : Bytes) (answer : MarkAnswer) → Type 0
 MarkByMessages book e id answer =
-    (messages : List Bytes) → Demand3 book messages → (answer ≡ plainMarkAnswer messages e id (answer .partner .0))
-    × ((x : Block) → plainStoredAs messages e id ≡ some x
-    → nth (used book) (answer .partner .0) ≡ find (isSeriesOfPair (slotOf (used book) (otherParty e (pair x))) (pair x)) (used book))
+    (messages : List Bytes) → Demand3 book messages → (answer ≡ plainMarkAnswer messages e id (answer .partner .0)) × Partner book messages e id (answer .partner .0)
 
 -- the block is the one that the sender's latest message has, sender's slot, mark and check apart; there is none where that has none
 unfoldable pub BlockByMessages : (book : Bytes) (e : Bytes) (id : Bytes) (block : Bytes) → Type 0

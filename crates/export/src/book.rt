@@ -4,6 +4,7 @@ ghost use lib.ListN.{length};
 ghost use Rattle.paper.specs.Sound.{sound};
 ghost use Rattle.paper.specs.Opening.{openAnswer, opened};
 ghost use Rattle.paper.specs.Clock.{clockAnswer, clockMoved};
+ghost use Rattle.paper.specs.Conversion.{conversionNumber, converted};
 ghost use Rattle.paper.specs.Readings.{markAnswer};
 ghost use Rattle.paper.specs.Finals.{final};
 ghost use Rattle.paper.specs.PlainRun.{plainRun};
@@ -11,7 +12,7 @@ ghost use Rattle.paper.specs.Listing.{listing};
 ghost use Rattle.listing_text.specs.Text.{textLength, textInto};
 ghost use Rattle.paper.specs.Rules.{verdict};
 ghost use Rattle.paper.specs.Acceptance.{submitted};
-ghost use Rattle.export.specs.Demand3.{OpeningKeeps, ClockKeeps, SubmissionKeeps, MarkByMessages, FinalByMessages, PlainRunSaysYes};
+ghost use Rattle.export.specs.Demand3.{OpeningKeeps, ConversionKeeps, ClockKeeps, SubmissionKeeps, MarkByMessages, FinalByMessages, PlainRunSaysYes};
 use paper::ClockAnswer;
 use paper::FinalAnswer;
 use paper::MarkAnswer;
@@ -41,6 +42,15 @@ pub extern "C" fn tetherbay_open(
     ensures { λ r. ⌜ OpeningKeeps (now (book .entry)) (r .number) (now (book .exit)) ⌝ }
 {
     opening::open(book, n, lead, day, area, receiver)
+}
+
+// From the old layout, whose byte 104 is a state.
+#[no_mangle]
+pub extern "C" fn tetherbay_convert(book: &mut [u8]) -> u32
+    ensures { λ r. ⌜ (r ≡ conversionNumber (now (book .entry))) × (now (book .exit) ≡ converted (now (book .entry))) ⌝ }
+    ensures { λ r. ⌜ ConversionKeeps (now (book .entry)) r (now (book .exit)) ⌝ }
+{
+    conversion::convert(book)
 }
 
 #[no_mangle]

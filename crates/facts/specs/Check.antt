@@ -4,7 +4,7 @@ use Rattle.laws.specs.Base.{_≡_, refl, sym, ap, _∙_, true, false, List, [],
 use mathlib.Core.Logic.{⊎-elim}
 use Rattle.laws.specs.Tests.Laws.{lt-or, is-yes, is-equal, is-other}
 use Rattle.laws.specs.Bytes.{part, written, little, number}
-use Rattle.laws.specs.Bytes.Laws.{written-length, take-written, part-written-before, number-written, number-written-after}
+use Rattle.laws.specs.Bytes.Laws.{written-length, take-written, written-elsewhere, written-again, part-written-before, little-length, number-written, number-written-after}
 use Rattle.paper.specs.Check.{checkStep, checkFrom, checkOf, checkRight, sealed}
 
 -- ---- below 4,294,967,296
@@ -121,6 +121,18 @@ part-sealed o n b h = part-written-before o n 508 (little 4 (checkOf b)) b h
 pub check-of-sealed : (b : List ℕ) → checkOf (sealed b) ≡ checkOf b
 unfolding checkOf sealed
 check-of-sealed b = ap (checkFrom 0) (take-written 508 508 (little 4 (checkOf b)) b (omega arith))
+
+-- what was sealed is as good as what was not, where something is written before the check and sealed again
+pub sealed-again : (o : ℕ) (u v b : List ℕ) → o + length u ≤ 508 → length u ≡ length v → sealed (written o u (sealed (written o v b))) ≡ sealed (written o u b)
+unfolding sealed checkOf
+sealed-again o u v b h e =
+    let c : List ℕ = little 4 (checkOf (written o v b)) in
+    let p : written o u (written 508 c (written o v b)) ≡ written 508 c (written o u b) =
+    written-elsewhere o 508 u c (written o v b) h ∙ ap (written 508 c) (written-again o u v b e)
+    in
+    ap (λ w. written 508 (little 4 (checkOf w)) w) p
+    ∙ ap (λ k. written 508 (little 4 k) (written 508 c (written o u b))) (ap (checkFrom 0) (take-written 508 508 c (written o u b) (omega arith)))
+    ∙ written-again 508 (little 4 (checkOf (written o u b))) c (written o u b) (little-length 4 _ ∙ sym (little-length 4 _))
 
 pub sealed-right : (b : List ℕ) → length b ≡ 512 → checkRight (sealed b) ≡ true
 unfolding checkRight sealed

@@ -6,8 +6,8 @@ use Rattle.laws.specs.Lists.{every, All}
 use Rattle.laws.specs.Lists.Each.{all-append, every-all, all-every}
 use Rattle.laws.specs.Bytes.{part, written, value, little, number}
 use Rattle.laws.specs.Bytes.Laws.{part-none, part-part, part-add, all-part, written-length, part-written-before, part-written-after, part-written-same, little-length, value-little, number-part}
-use Rattle.paper.specs.Layout.{Bytes, Block, zeros, kind, nOf, lead, clockPlus10080, dayOfBook, area, receiver, dayZeros, version, idOf, seriesCount, sender, dayOfMessage, nets, net, senderZeros, businessType, contractType, sendersSlot, inArea, outArea, inParty, outParty, pair, agreement, mark, state, first, partner, quantities, quantity, entry, aboveN, senderZerosInMessage, withClock, withSendersSlot, withMark, withNets}
-use Rattle.facts.specs.Check.{sealed-length, part-sealed}
+use Rattle.paper.specs.Layout.{Bytes, Block, zeros, kind, nOf, lead, clockPlus10080, dayOfBook, area, receiver, dayZeros, version, idOf, seriesCount, sender, dayOfMessage, nets, net, senderZeros, businessType, contractType, sendersSlot, inArea, outArea, inParty, outParty, pair, agreement, mark, differing, first, partner, quantities, quantity, entry, aboveN, senderZerosInMessage, withClock, withSendersSlot, withMark, withNets}
+use Rattle.facts.specs.Check.{sealed-length, part-sealed, sealed-again}
 
 -- ---- lengths
 
@@ -73,6 +73,15 @@ mark-with-mark m x h e = part-sealed 104 4 _ (omega arith) ∙ rw h at (part-wri
 pub nets-with-nets : (v : Bytes) (s : Block) → length v ≡ 400 → length s ≡ 512 → nets (withNets v s) ≡ v
 unfolding nets withNets
 nets-with-nets v s h e = part-sealed 108 400 _ (omega arith) ∙ rw h at (part-written-same 108 v s (omega arith))
+
+-- of two marks, and of two rows of nets, the later one stays
+pub mark-again : (m k : Bytes) (x : Block) → length m ≡ 4 → length k ≡ 4 → withMark m (withMark k x) ≡ withMark m x
+unfolding withMark
+mark-again m k x e f = sealed-again 104 m k x (omega arith) (e ∙ sym f)
+
+pub nets-again : (v w : Bytes) (s : Block) → length v ≡ 400 → length w ≡ 400 → withNets v (withNets w s) ≡ withNets v s
+unfolding withNets
+nets-again v w s e f = sealed-again 108 v w s (omega arith) (e ∙ sym f)
 
 pub clock-with-clock : (minute : ℕ) (d : Block) → minute < 65536 → length d ≡ 512 → clockPlus10080 (withClock minute d) ≡ minute
 unfolding clockPlus10080 number withClock
@@ -253,11 +262,11 @@ module _ (x y : Block) (a : Alike x y) where
   unfolding aboveN
   alike-above n h = a .back (108 + 4 * n) (400 - 4 * n) (omega arith) (omega arith)
 
--- ---- state, first and partner in the bytes of a mark
+-- ---- count, first and partner in the bytes of a mark
 
-pub mark-state : (x : Block) → state x ≡ number 1 0 (mark x)
-unfolding state mark
-mark-state x = sym (number-part 1 104 4 0 x (omega arith))
+pub mark-differing : (x : Block) → differing x ≡ number 1 0 (mark x)
+unfolding differing mark
+mark-differing x = sym (number-part 1 104 4 0 x (omega arith))
 
 pub mark-first : (x : Block) → first x ≡ number 1 1 (mark x)
 unfolding first mark

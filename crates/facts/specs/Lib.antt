@@ -4,9 +4,10 @@ pub mod Layout
 pub mod Book
 pub mod Eic
 pub mod QuantityText
--- what marks and nets say
+-- what marks, nets and quantities say
 pub mod Marks
 pub mod Nets
+pub mod Quantities
 -- the only door from a test to what it gives: a sound book, a message let through, a clock move, an opening
 pub mod Sound
 pub mod Verdict
@@ -19,3 +20,7 @@ pub mod Renewal
 pub mod Remarking
 pub mod Senders
 pub mod Stored
+-- what a conversion does to each block, and the messages that it finds kept
+pub mod Conversion
+pub mod KeptMessages
+pub mod Unchanged

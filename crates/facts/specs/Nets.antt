@@ -1,11 +1,13 @@
 -- What a net says: the four bytes hold the sum bought less the sum sold, by its remainder by 2 to the 32. A sum of at most 200 quantities of at most 9,999,999
 -- is at most 1,999,999,800, less than half of that, so the word tells the signed number.
-use Rattle.laws.specs.Base.{_≡_, Bool, true, false, cond, List, ℕ, _+_, _-_, _*_, _%_, _≤_, _<_, arith, length}
+use Rattle.laws.specs.Base.{_≡_, refl, Bool, true, false, cond, List, ℕ, zero, suc, _+_, _-_, _*_, _%_, _≤_, _<_, arith, length, length-append}
 use Rattle.laws.specs.Lists.{same, total, All}
 use Rattle.laws.specs.Lists.Each.{all-imply}
 use Rattle.laws.specs.Lists.Count.{total-bound}
+use Rattle.laws.specs.Bytes.{little}
+use Rattle.laws.specs.Bytes.Laws.{little-length}
 use Rattle.paper.specs.Layout.{Bytes, Block, inParty, outParty, quantity}
-use Rattle.paper.specs.Nets.{bought, sold, netOf}
+use Rattle.paper.specs.Nets.{bought, sold, netOf, netsTo, netsOf}
 
 -- the word of gain less loss, both at most 1,999,999,800: itself where that is not negative, else 2 to the 32 more
 pub record SignedSum (word gain loss : ℕ) : Type 0 where
@@ -40,3 +42,22 @@ module _ (e : Bytes) (series : List Block) (k : ℕ) (few : length series ≤ 20
   pub net-signed : SignedSum (netOf e series k) (bought e series k) (sold e series k)
   unfolding netOf
   net-signed = word-signed _ _ bought-most sold-most
+
+-- ---- their bytes, and what they depend on
+
+pub nets-to-length : (e : Bytes) (l : List Block) (m : ℕ) → length (netsTo e l m) ≡ 4 * m
+unfolding netsTo
+nets-to-length e l zero = refl
+nets-to-length e l (suc m) = omega (arith, length-append (netsTo e l m) (little 4 (netOf e l m)), little-length 4 (netOf e l m), nets-to-length e l m)
+
+pub nets-of-length : (e : Bytes) (l : List Block) → length (netsOf e l) ≡ 400
+unfolding netsOf
+nets-of-length e l = nets-to-length e l 100
+
+pub nets-agree : (e : Bytes) (l r : List Block) → ((k : ℕ) → k < 100 → (bought e l k ≡ bought e r k) × (sold e l k ≡ sold e r k)) → netsOf e l ≡ netsOf e r
+unfolding netsOf netsTo netOf
+nets-agree e l r f = by 100 (omega arith)
+  where
+    by : (m : ℕ) → m ≤ 100 → netsTo e l m ≡ netsTo e r m
+    by zero h = refl
+    by (suc m) h = let q = f m (omega arith) in rw (by m (omega arith), q .0, q .1)

@@ -1,15 +1,15 @@
 -- What soundness says, as records: whoever needs a clause takes it here by name, and no other file counts the conjuncts of the definition.
 use Rattle.laws.specs.Base.{_≡_, true, false, List, ℕ, _/_, _%_, _≤_, arith, length, drop, length-take-le}
 use Rattle.laws.specs.Tests.{_or_, is}
-use Rattle.laws.specs.Tests.Laws.{split, and-left, and-right, and-both, or-no, or-yes-left, or-yes-right, or-else, is-yes, is-equal, upto-yes, upto-true}
+use Rattle.laws.specs.Tests.Laws.{split, and-left, and-right, and-both, or-no, or-yes-left, or-yes-right, or-else, neg-true, neg-false, is-yes, is-equal, upto-yes, upto-true}
 use Rattle.laws.specs.Lists.{apart, All}
 use Rattle.laws.specs.Lists.Each.{every-all, all-every}
 use Rattle.laws.specs.Lists.Keep.{until-length}
 use Rattle.paper.specs.Check.{checkRight}
-use Rattle.paper.specs.Layout.{Bytes, Block, blocks, nOf, sender, sendersSlot, pair}
+use Rattle.paper.specs.Layout.{Bytes, Block, blocks, nOf, sender, sendersSlot, pair, differing}
 use Rattle.paper.specs.Ranges.{wholeBlocks, nAllowed}
 use Rattle.paper.specs.Book.{dayBlock, slots, isFree, used, isSender, isSeries, numbered}
-use Rattle.paper.specs.Sound.{dayFields, daySound, usedFirst, senderSound, partiesOf, ownerSound, seriesSound, usedSound, sameSender, sameSeries, sound}
+use Rattle.paper.specs.Sound.{dayFields, daySound, usedFirst, senderSound, partiesOf, ownerSound, seriesSound, usedSound, sameSender, sameSeries, differingSound, soundOver, differingAllowed, sound}
 use Rattle.facts.specs.Book.{series-not-sender, slots-length}
 
 -- ---- the book
@@ -24,11 +24,13 @@ pub record Sound (book : Bytes) : Type 0 where
   pub each : All (λ x. usedSound (dayBlock book) (used book) x ≡ true) (used book)
   pub senders : apart sameSender (used book) ≡ true
   pub series : apart sameSeries (used book) ≡ true
+  pub counts : All (λ x. differingSound differingAllowed (nOf (dayBlock book)) x ≡ true) (used book)
 
 pub sound-says : (book : Bytes) → sound book ≡ true → Sound book
-unfolding sound wholeBlocks usedFirst
+unfolding sound soundOver wholeBlocks usedFirst
 sound-says book s =
-    let s1 = and-left _ _ s in
+    let s0 = and-left _ _ s in
+    let s1 = and-left _ _ s0 in
     let s2 = and-left _ _ s1 in
     let s3 = and-left _ _ s2 in
     let s4 = and-left _ _ s3 in
@@ -43,19 +45,21 @@ sound-says book s =
       free = every-all _ _ (and-right _ _ s3);
       each = every-all _ _ (and-right _ _ s2);
       senders = and-right _ _ s1;
-      series = and-right _ _ s;
+      series = and-right _ _ s0;
+      counts = every-all _ _ (and-right _ _ s);
     }
 
 pub is-sound : (book : Bytes) → Sound book → sound book ≡ true
-unfolding sound wholeBlocks usedFirst
+unfolding sound soundOver wholeBlocks usedFirst
 is-sound book s =
     and-both _ _
     (and-both _ _
     (and-both _ _
     (and-both _ _
     (and-both _ _
+    (and-both _ _
     (and-both _ _ (and-both _ _ (and-both _ _ (is-equal _ _ (s .whole)) (upto-true _ _ (s .least))) (upto-true _ _ (s .most))) (all-every _ _ (s .checks)))
-    (s .day)) (all-every _ _ (s .free))) (all-every _ _ (s .each))) (s .senders)) (s .series)
+    (s .day)) (all-every _ _ (s .free))) (all-every _ _ (s .each))) (s .senders)) (s .series)) (all-every _ _ (s .counts))
 
 module _ (book : Bytes) (s : Sound book) where
   pub book-least : 1024 ≤ length book
@@ -81,6 +85,16 @@ pub day-n : (d : Block) → daySound d ≡ true → nOf d ≤ 100
 unfolding daySound dayFields
 day-n d e = n-small _ (and-right _ _ (and-left _ _ (and-left _ _ (and-left _ _ (and-left _ _ (and-left _ _ (and-left _ _ e)))))))
 
+n-large : (n : ℕ) → nAllowed n ≡ true → 92 ≤ n
+unfolding nAllowed
+n-large n e =
+    split (is n 92) (λ t. omega (arith, is-yes n 92 t))
+    (λ t. split (is n 96) (λ s. omega (arith, is-yes n 96 s)) (λ s. omega (arith, is-yes n 100 (or-else _ _ e (or-no _ _ t s)))))
+
+pub day-n-least : (d : Block) → daySound d ≡ true → 92 ≤ nOf d
+unfolding daySound dayFields
+day-n-least d e = n-large _ (and-right _ _ (and-left _ _ (and-left _ _ (and-left _ _ (and-left _ _ (and-left _ _ (and-left _ _ e)))))))
+
 -- ---- a used slot: a sound sender or a sound series
 
 module _ (d : Block) (us : List Block) (x : Block) (q : usedSound d us x ≡ true) where
@@ -104,3 +118,13 @@ pub series-owner : (d : Block) (us : List Block) (x : Block) → seriesSound d u
     → (isSender (numbered us (sendersSlot x)) ≡ true) × (partiesOf (sender (numbered us (sendersSlot x))) (pair x) ≡ true)
 unfolding seriesSound ownerSound
 series-owner d us x e = let o = and-right _ _ (and-left _ _ e) in (and-left _ _ o, and-right _ _ o)
+
+-- the count of a series' mark
+module _ (n : ℕ) (x : Block) where
+  pub count-most : differingSound differingAllowed n x ≡ true → isSeries x ≡ true → differing x ≤ n
+  unfolding differingSound differingAllowed
+  count-most e t = upto-yes _ _ (or-else _ _ e (neg-false _ t))
+
+  pub count-allowed : (isSeries x ≡ true → differing x ≤ n) → differingSound differingAllowed n x ≡ true
+  unfolding differingSound differingAllowed
+  count-allowed f = split (isSeries x) (λ t. or-yes-right _ _ (upto-true _ _ (f t))) (λ t. or-yes-left _ _ (neg-true _ t))

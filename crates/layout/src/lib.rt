@@ -3,7 +3,7 @@
 ghost use mathlib.Core.Path.{_≡_};
 ghost use Prim.Native.Nat.{_<_, _≤_};
 ghost use lib.ListN.{length};
-ghost use Rattle.paper.specs.Layout.{kind, nOf, lead, clockPlus10080, dayOfBook, area, receiver, version, idOf, seriesCount, sender, dayOfMessage, nets, businessType, contractType, sendersSlot, inArea, outArea, inParty, outParty, pair, agreement, mark, state, first, partner, quantities, quantity, aboveN, dayZeros, senderZeros, senderZerosInMessage, seriesZerosInMessage};
+ghost use Rattle.paper.specs.Layout.{kind, nOf, lead, clockPlus10080, dayOfBook, area, receiver, version, idOf, seriesCount, sender, dayOfMessage, nets, businessType, contractType, sendersSlot, inArea, outArea, inParty, outParty, pair, agreement, mark, differing, first, partner, quantities, quantity, aboveN, dayZeros, senderZeros, senderZerosInMessage, seriesZerosInMessage};
 use block::numbers::byte_or_zero;
 use block::numbers::number_2;
 use block::numbers::number_4;
@@ -158,8 +158,8 @@ pub fn mark(b: &[u8]) -> &[u8]
     part_of(b, 104, 4)
 }
 
-pub fn state(b: &[u8]) -> u8
-    ensures { λ r. ⌜ r ≡ state (now (b .entry)) ⌝ }
+pub fn differing(b: &[u8]) -> u8
+    ensures { λ r. ⌜ r ≡ differing (now (b .entry)) ⌝ }
 {
     byte_or_zero(b, 104)
 }

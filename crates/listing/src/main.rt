@@ -4,9 +4,9 @@ use field::part_of;
 use libc::STDIN_FILENO;
 use libc::STDOUT_FILENO;
 
-// No listing has more than 5,590 bytes (listing_text, specs/Bound), so the buffer is never too short.
+// No listing has more than 5,591 bytes (listing_text, specs/Bound), so the buffer is never too short.
 fn list(book: &[u8]) {
-    let mut text = [0u8; 5590];
+    let mut text = [0u8; 5591];
     let n = listing_text::listing(book, &mut text);
     io::write_all(STDOUT_FILENO, part_of(&text, 0, n));
 }

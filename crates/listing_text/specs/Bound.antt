@@ -1,4 +1,4 @@
--- No listing is longer than 5,590 bytes: a header of 46 and, for a book of at most 64 blocks, at most 63 lines of at most 88.
+-- No listing is longer than 5,591 bytes: a header of 47 and, for a book of at most 64 blocks, at most 63 lines of at most 88.
 use mathlib.Core.Path.{_≡_}
 use mathlib.Core.Bool.{cond}
 use mathlib.Core.List.{List, [], _∷_, _++_, append-assoc}
@@ -9,7 +9,7 @@ use Rattle.laws.specs.Tests.{is, less}
 use Rattle.laws.specs.Tests.Laws.{split, less-no}
 use Rattle.laws.specs.Lists.Keep.{until-length}
 use Rattle.laws.specs.Bytes.Laws.{part-length-most}
-use Rattle.paper.specs.Layout.{Bytes, Block, idOf, sender, sendersSlot, inParty, outParty, state, first, partner}
+use Rattle.paper.specs.Layout.{Bytes, Block, idOf, sender, sendersSlot, inParty, outParty, differing, first, partner}
 use Rattle.paper.specs.Ids.{idText}
 use Rattle.paper.specs.Book.{slots, isFree, used, isSeries, numbered}
 use Rattle.paper.specs.Sound.{sound}
@@ -62,7 +62,7 @@ unfolding names parties marks
 line-most us slot x =
     let d = decimal-most in
     rw (← line-parts us slot x)
-    (simp length-append (omega (arith, d slot, sender-most (numbered us (sendersSlot x)), id-most x, in-party-most x, out-party-most x, d (state x), d (first x), d (partner x))))
+    (simp length-append (omega (arith, d slot, sender-most (numbered us (sendersSlot x)), id-most x, in-party-most x, out-party-most x, d (differing x), d (first x), d (partner x))))
 
 pub lines-most : (us : List Block) (slot : ℕ) (l : List Block) → length (seriesLines us slot l) ≤ 88 * length l
 unfolding seriesLines
@@ -77,7 +77,7 @@ pub used-most : (book : Bytes) → length book ≤ 32768 → length (used book) 
 unfolding used
 used-most book h = omega (arith, until-length isFree (slots book), slots-length book)
 
-pub listing-most : (book : Bytes) → length (listing book) ≤ 5590
+pub listing-most : (book : Bytes) → length (listing book) ≤ 5591
 unfolding listing header text
 listing-most book =
     split (less 32768 (length book)) (λ e. rw e (omega arith))

@@ -6,7 +6,7 @@ use Prim.Native.Nat.{ℕ, _+_}
 use lib.ListN.{length}
 use Rattle.laws.specs.Tests.{less}
 use Rattle.laws.specs.Bytes.{written}
-use Rattle.paper.specs.Layout.{Bytes, Block, idOf, sender, sendersSlot, inParty, outParty, state, first, partner}
+use Rattle.paper.specs.Layout.{Bytes, Block, idOf, sender, sendersSlot, inParty, outParty, differing, first, partner}
 use Rattle.paper.specs.Ids.{idText}
 use Rattle.paper.specs.Book.{numbered}
 use Rattle.paper.specs.QuantityText.{decimal}
@@ -24,9 +24,9 @@ names us slot x = (decimal slot ++ 32 ∷ []) ++ (sender (numbered us (sendersSl
 unfoldable pub parties : Block → Bytes
 parties x = (inParty x ++ 32 ∷ []) ++ (outParty x ++ 32 ∷ [])
 
--- state, first, partner
+-- count, first, partner
 unfoldable pub marks : Block → Bytes
-marks x = (decimal (state x) ++ 32 ∷ []) ++ (decimal (first x) ++ 32 ∷ []) ++ (decimal (partner x) ++ 10 ∷ [])
+marks x = (decimal (differing x) ++ 32 ∷ []) ++ (decimal (first x) ++ 32 ∷ []) ++ (decimal (partner x) ++ 10 ∷ [])
 
 -- the text for a sound book with these used slots
 unfoldable pub listingOf : List Block → Bytes

@@ -13,6 +13,7 @@ ghost use Rattle.paper.specs.QuantityText.{decimal};
 ghost use Rattle.paper.specs.Listing.{seriesLine, seriesLines, listing};
 ghost use Rattle.listing_text.specs.Text.{Appended, names, parties, marks, listingOf, textLength, textInto};
 use field::id_text;
+use layout::differing;
 use layout::first;
 use layout::id_of;
 use layout::in_party;
@@ -20,7 +21,6 @@ use layout::out_party;
 use layout::partner;
 use layout::sender;
 use layout::senders_slot;
-use layout::state;
 use paper::Slot;
 use quantity::decimal;
 use slots::block_at;
@@ -39,7 +39,7 @@ fn put_byte(x: u8, at: usize, out: &mut [u8])
 
 // The longest text is the header.
 fn put_text(s: &[u8], at: usize, out: &mut [u8]) -> usize
-    requires { ⌜ (at < 60000) × (length (now s) ≤ 46) ⌝ }
+    requires { ⌜ (at < 60000) × (length (now s) ≤ 47) ⌝ }
     ensures { λ r. ⌜ Appended at (now (s .entry)) (now (out .entry)) r (now (out .exit)) ⌝ }
 {
     let mut i = 0;
@@ -100,15 +100,15 @@ fn partner_number(x: &[u8]) -> u32
     partner(x).0 as u32
 }
 
-// State, first and partner, which end the line.
+// Count, first and partner, which end the line.
 fn put_mark(x: &[u8], at: usize, out: &mut [u8]) -> usize
     requires { ⌜ at < 50000 ⌝ }
     ensures { λ r. ⌜ Appended at (marks (now (x .entry))) (now (out .entry)) r (now (out .exit)) × (r ≤ at + 15) ⌝ }
 {
-    let state = state(x) as u32;
+    let differing = differing(x) as u32;
     let first = first_number(x);
     let partner = partner_number(x);
-    let at = put_number(state, 32, at, out);
+    let at = put_number(differing, 32, at, out);
     let at = put_number(first, 32, at, out);
     put_number(partner, 10, at, out)
 }
@@ -136,7 +136,7 @@ fn put_slot(us: &[u8], i: usize, at: usize, out: &mut [u8]) -> usize
 }
 
 fn put_lines(us: &[u8], at: usize, out: &mut [u8]) -> usize
-    requires { ⌜ (at ≤ 46) × (length (now us) / 512 ≤ 63) ⌝ }
+    requires { ⌜ (at ≤ 47) × (length (now us) / 512 ≤ 63) ⌝ }
     ensures { λ r. ⌜ Appended at (seriesLines (cut 512 (now (us .entry))) 1 (cut 512 (now (us .entry)))) (now (out .entry)) r (now (out .exit)) ⌝ }
 {
     let many = us.len() / 512;
@@ -154,13 +154,13 @@ fn put_listing(us: &[u8], out: &mut [u8]) -> usize
     requires { ⌜ length (now us) / 512 ≤ 63 ⌝ }
     ensures { λ r. ⌜ Appended 0 (listingOf (cut 512 (now (us .entry)))) (now (out .entry)) r (now (out .exit)) ⌝ }
 {
-    let at = put_text(b"slot sender series in out state first partner\n", 0, out);
+    let at = put_text(b"slot sender series in out differ first partner\n", 0, out);
     put_lines(us, at, out)
 }
 
 // Nothing is put into a buffer that is too short for all of it.
 fn put_if_room(s: &[u8], out: &mut [u8]) -> usize
-    requires { ⌜ length (now s) ≤ 46 ⌝ }
+    requires { ⌜ length (now s) ≤ 47 ⌝ }
     ensures { λ r. ⌜ (r ≡ textLength (now (s .entry)) (length (now (out .entry)))) × (now (out .exit) ≡ textInto (now (s .entry)) (now (out .entry))) ⌝ }
 {
     if out.len() < s.len() {

@@ -1,13 +1,14 @@
--- A counterpart is linked in the bucket of its pair; the first difference position by position, and the mark from the numbers that the code finds.
-use Rattle.laws.specs.Kit.{_≡_, refl, sym, ap, _∙_, true, cond, List, [], _∷_, ℕ, _+_, _-_, _≤_, _<_, arith, zero, suc, is, is-equal, is-other, is-same, and-left, and-right, and-both}
+-- A counterpart is linked in the bucket of its pair; count and first position by position, and the mark from the numbers that the code finds.
+use Rattle.laws.specs.Kit.{_≡_, refl, sym, ap, _∙_, true, cond, List, [], _∷_, ℕ, _+_, _≤_, _<_, arith, is, is-equal, and-left, and-right, and-both}
 use Rattle.laws.specs.Lists.{same}
 use Rattle.laws.specs.Lists.Same.{same-yes}
 use Rattle.laws.specs.Lists.Search.{has-no-find, place-none, place-find}
 use Rattle.laws.specs.Bytes.{little}
 use Rattle.paper.specs.Layout.{Bytes, Block, quantities, entry, quantity}
 use Rattle.paper.specs.Book.{numbered, pairIs}
-use Rattle.paper.specs.Marks.{isCounterpart, counterpart, counterpartSlot, differenceFrom, firstDifference, markOf, markIn}
+use Rattle.paper.specs.Marks.{isCounterpart, counterpart, counterpartSlot, differenceFrom, firstDifference, differences, markOf, markIn}
 use Rattle.facts.specs.Layout.{entry-quantities}
+use Rattle.facts.specs.Marks.{Agree, differences-most, first-most, agree-no-differences, agree-no-difference, first-where-equal, first-where-other, differences-where-equal, differences-where-other}
 use Rattle.index.specs.Linked.{bucket, seriesIn}
 use Rattle.slots.proofs.Laws.{numbered-some}
 
@@ -17,56 +18,53 @@ pub counterpart-linked : (slot : ℕ) (p : Bytes) (x : Block) → isCounterpart 
 unfolding isCounterpart pairIs seriesIn
 counterpart-linked slot p x e = and-both _ _ (and-left _ _ (and-left _ _ e)) (is-equal _ _ (ap bucket (same-yes _ _ (and-right _ _ e))))
 
--- ---- the first difference
+-- ---- how two series differ
 
-no-difference : (f k : ℕ) (q : Bytes) → differenceFrom f k q q ≡ 0
-unfolding differenceFrom
-no-difference zero k q = refl
-no-difference (suc f) k q = rw (is-same (entry q k)) (no-difference f (k + 1) q)
+-- what is found of the first k positions
+pub record Found (a b : Bytes) (k c f : ℕ) : Type 0 where
+  pub count : c ≡ differences k a b
+  pub first : f ≡ firstDifference k a b
+
+-- no more than k of them, and none above k
+pub found-most : (a b : Bytes) (k c f : ℕ) → Found a b k c f → (c ≤ k) × (f ≤ k)
+found-most a b k c f i = (omega (arith, i .count, differences-most a b k), omega (arith, i .first, first-most a b k))
+
+pub found-all : (a b : Bytes) (n k c f : ℕ) → k ≤ n → n ≤ k → Found a b k c f → Found a b n c f
+found-all a b n k c f h l i = let z : n ≡ k = omega arith in rw z i
 
 -- the same bytes differ nowhere
-pub difference-same : (n : ℕ) (a b : Bytes) → same a b ≡ true → 0 ≡ firstDifference n a b
-unfolding firstDifference
-difference-same n a b e = sym (ap (λ q. differenceFrom n 0 q b) (same-yes a b e) ∙ no-difference n 0 b)
+pub found-same : (n : ℕ) (a b : Bytes) → same a b ≡ true → Found a b n 0 0
+found-same n a b e =
+    let f : Agree n a b = λ k h. ap (λ q. entry q k) (same-yes a b e) in
+    record { count = sym (agree-no-differences a b n f); first = sym (agree-no-difference a b n f) }
 
-pub difference-start : (n : ℕ) (a b : Bytes) → firstDifference n a b ≡ differenceFrom (n - 0) 0 a b
-unfolding firstDifference
-difference-start n a b = let z : n - 0 ≡ n = omega arith in rw z
-
-pub difference-end : (n k : ℕ) (a b : Bytes) {w : ℕ} → n ≤ k → w ≡ differenceFrom (n - k) k a b → 0 ≡ w
-unfolding differenceFrom
-difference-end n k a b h e = let z : n - k ≡ 0 = omega arith in sym (e ∙ rw z)
+pub found-none : (a b : Bytes) → Found a b 0 0 0
+unfolding differences firstDifference differenceFrom
+found-none a b = record { count = refl; first = refl }
 
 -- u and v are the quantities at position k + 1
-module _ (n k u v : ℕ) (x y : Block) (h : k < n) (m : n ≤ 100) (d : u ≡ quantity x k) (e : v ≡ quantity y k) {w : ℕ} (i : w ≡ differenceFrom (n - k) k (quantities x) (quantities y)) where
-  here : w ≡ cond (is u v) (differenceFrom (n - (k + 1)) (k + 1) (quantities x) (quantities y)) (k + 1)
-  unfolding differenceFrom
-  here =
-      let l : k < 100 = omega arith in
-      let z : n - k ≡ suc (n - (k + 1)) = omega arith in
-      i ∙ rw (z, entry-quantities x k l, entry-quantities y k l, d, e)
+module _ (k u v : ℕ) (x y : Block) (l : k < 100) (d : u ≡ quantity x k) (e : v ≡ quantity y k) (c f : ℕ) (i : Found (quantities x) (quantities y) k c f) where
+  entries : (entry (quantities x) k ≡ u) × (entry (quantities y) k ≡ v)
+  entries = (entry-quantities x k l ∙ sym d, entry-quantities y k l ∙ sym e)
 
-  pub difference-go : u ≡ v → w ≡ differenceFrom (n - (k + 1)) (k + 1) (quantities x) (quantities y)
-  difference-go q = here ∙ rw (is-equal u v q)
+  pub found-equal : u ≡ v → Found (quantities x) (quantities y) (k + 1) c f
+  found-equal q =
+      let h = entries .0 ∙ q ∙ sym (entries .1) in
+      record { count = i .count ∙ sym (differences-where-equal _ _ k h); first = i .first ∙ sym (first-where-equal _ _ k h) }
 
-  pub difference-hit : (u ≡ v → ⊥) → k + 1 ≡ w
-  difference-hit q = sym (here ∙ rw (is-other u v q))
+  pub found-other : (u ≡ v → ⊥) → (r : ℕ) → r ≡ cond (is f 0) (k + 1) f → Found (quantities x) (quantities y) (k + 1) (c + 1) r
+  found-other q r z =
+      let h : entry (quantities x) k ≡ entry (quantities y) k → ⊥ = λ w. q (sym (entries .0) ∙ w ∙ entries .1) in
+      record { count = ap (λ s. s + 1) (i .count) ∙ sym (differences-where-other _ _ k h); first = z ∙ ap (λ s. cond (is s 0) (k + 1) s) (i .first) ∙ sym (first-where-other _ _ k h) }
 
 -- ---- the mark, where t is the slot of the counterpart
 
 module _ (n : ℕ) (l : List Block) (x : Block) (t : ℕ) (e : t ≡ counterpartSlot l x) where
-  pub mark-alone : t ≡ 0 → 1 ∷ 0 ∷ 0 ∷ 0 ∷ [] ≡ markIn n l x
+  pub mark-alone : t ≡ 0 → 0 ∷ 0 ∷ 0 ∷ 0 ∷ [] ≡ markIn n l x
   unfolding markIn markOf counterpart counterpartSlot
   mark-alone z = rw (has-no-find _ l (place-none _ l t e z))
 
-  -- and d the first difference
-  module _ (z : t ≡ 0 → ⊥) (d : ℕ) (f : d ≡ firstDifference n (quantities x) (quantities (numbered l t))) where
-    mark-found : cond (is d 0) 2 3 ∷ d ∷ little 2 t ≡ markIn n l x
-    unfolding markIn markOf counterpart counterpartSlot
-    mark-found = rw (place-find _ l t e [] z, numbered-some l t z refl, ← e, ← f)
-
-    pub mark-matched : d ≡ 0 → 2 ∷ 0 ∷ little 2 t ≡ markIn n l x
-    mark-matched q = sym (ap (λ k. cond (is k 0) 2 3 ∷ k ∷ little 2 t) q ∙ rw (is-same 0)) ∙ mark-found
-
-    pub mark-mismatched : (d ≡ 0 → ⊥) → 3 ∷ d ∷ little 2 t ≡ markIn n l x
-    mark-mismatched q = sym (rw (is-other d 0 q)) ∙ mark-found
+  -- and c, f are count and first
+  pub mark-found : (t ≡ 0 → ⊥) → (c f : ℕ) → c ≡ differences n (quantities x) (quantities (numbered l t)) → f ≡ firstDifference n (quantities x) (quantities (numbered l t)) → c ∷ f ∷ little 2 t ≡ markIn n l x
+  unfolding markIn markOf counterpart counterpartSlot
+  mark-found z c f p q = rw (place-find _ l t e [] z, numbered-some l t z refl, ← e, ← p, ← q)

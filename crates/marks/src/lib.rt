@@ -1,12 +1,14 @@
-// The marks of "Marks and finals", worked out afresh: a series' counterpart among the used slots, the first position at which the two
-// differ, and the mark that this gives.
+// The marks of "Marks and finals", worked out afresh: a series' counterpart among the used slots, at how many positions the two differ
+// and the first of these, and the mark that this gives.
 ghost use mathlib.Core.Path.{_≡_};
+ghost use mathlib.Core.Bool.{cond};
 ghost use Prim.Native.Nat.{_/_, _≤_};
 ghost use lib.ListN.{length};
+ghost use Rattle.laws.specs.Tests.{is};
 ghost use Rattle.laws.specs.Cut.{cut};
 ghost use Rattle.paper.specs.Layout.{quantities};
 ghost use Rattle.paper.specs.Book.{pairIs};
-ghost use Rattle.paper.specs.Marks.{isCounterpart, counterpartSlot, firstDifference, markIn};
+ghost use Rattle.paper.specs.Marks.{isCounterpart, counterpartSlot, differences, firstDifference, markIn};
 ghost use Rattle.paper.specs.PlainRun.{markTrue};
 ghost use Rattle.index.specs.Linked.{seriesIn, Links};
 use field::same;
@@ -17,7 +19,6 @@ use layout::pair;
 use layout::quantities;
 use layout::quantity;
 use layout::senders_slot;
-use paper::Position;
 use paper::Slot;
 use slots::block_at;
 use slots::is_series;
@@ -60,40 +61,53 @@ fn counterpart_slot(us: &[u8], x: &[u8], heads: &[u16; 1024], nexts: &[u16; 1000
     Slot(at)
 }
 
-// The lowest of n positions at which two series differ; 0 where they agree. Two that agree, as most do, are compared as bytes.
-fn first_difference(n: usize, a: &[u8], b: &[u8]) -> Position
-    requires { ⌜ n ≤ 100 ⌝ }
-    ensures { λ r. ⌜ (r .0 ≡ firstDifference n (quantities (now (a .entry))) (quantities (now (b .entry)))) × (r .0 ≤ n) ⌝ }
+// How two series of one trade differ: at how many positions, and the first of them; 0 and 0 where they agree.
+struct Difference {
+    count: usize,
+    first: usize,
+}
+
+// The lowest position found stays.
+fn lowest(first: usize, position: usize) -> usize
+    ensures { λ r. ⌜ r ≡ cond (is first 0) position first ⌝ }
 {
+    if first == 0 { position } else { first }
+}
+
+// Of n positions, count and first in one pass. Two series that agree, as most do, are compared as bytes.
+fn compare(n: usize, a: &[u8], b: &[u8]) -> Difference
+    requires { ⌜ n ≤ 100 ⌝ }
+    ensures { λ r. ⌜ (r .count ≡ differences n (quantities (now (a .entry))) (quantities (now (b .entry)))) × (r .first ≡ firstDifference n (quantities (now (a .entry))) (quantities (now (b .entry)))) × (r .count ≤ n) × (r .first ≤ n) ⌝ }
+{
+    let mut count = 0;
+    let mut first = 0;
     if same(quantities(a), quantities(b)) {
-        return Position(0);
+        return Difference { count, first };
     }
     let mut k = 0;
     while k < n {
         if quantity(a, k) != quantity(b, k) {
-            return Position(k + 1);
+            first = lowest(first, k + 1);
+            count += 1;
         }
         k += 1;
     }
-    Position(0)
+    Difference { count, first }
 }
 
-// State, first and partner as the block keeps them: 1 alone, 2 matched, 3 mismatched.
+// Count, first and partner as the block keeps them: zeros where the series stands alone.
 pub fn mark_in(n: usize, us: &[u8], x: &[u8], heads: &[u16; 1024], nexts: &[u16; 1000]) -> [u8; 4]
     requires { ⌜ (n ≤ 100) × (length (now us) / 512 ≤ 1000) × Links seriesIn (cut 512 (now us)) 0 (now heads) (now nexts) ⌝ }
     ensures { λ r. ⌜ r ≡ markIn n (cut 512 (now (us .entry))) (now (x .entry)) ⌝ }
 {
     let partner = counterpart_slot(us, x, heads, nexts).0;
     if partner == 0 {
-        return [1, 0, 0, 0];
+        return [0, 0, 0, 0];
     }
-    let first = first_difference(n, x, numbered(us, Slot(partner))).0;
-    if first == 0 {
-        return [2, 0, (partner % 256) as u8, (partner / 256 % 256) as u8];
-    }
+    let d = compare(n, x, numbered(us, Slot(partner)));
     [
-        3,
-        first as u8,
+        d.count as u8,
+        d.first as u8,
         (partner % 256) as u8,
         (partner / 256 % 256) as u8,
     ]

@@ -4,9 +4,11 @@ ghost use mathlib.Core.Path.{_≡_};
 ghost use Prim.Native.Nat.{_-_, _≤_};
 ghost use lib.ListN.{length};
 ghost use Rattle.laws.specs.Cut.{cut};
-ghost use Rattle.paper.specs.Layout.{quantity, withNets};
+ghost use Rattle.paper.specs.Layout.{sender, quantity, withNets};
+ghost use Rattle.paper.specs.Book.{ownSeries};
 ghost use Rattle.paper.specs.Nets.{netsOf};
 ghost use Rattle.paper.specs.PlainRun.{netsTrue};
+ghost use Rattle.layout.specs.Written.{entries};
 ghost use Rattle.nets.specs.Sums.{Raised, boughtShare, soldShare, share, ownShare, shares};
 use block::check::seal;
 use field::same;
@@ -112,16 +114,34 @@ fn add_own(sums: &mut [u32], e: &[u8], slot: Slot, us: &[u8])
     }
 }
 
-// The nets of the sender e, from its message's series, into its block s, with the check put right. Below 2 to the 19 series
-// no sum is as great as the 2 to the 52 that the definition adds.
+// The sums into a block as its nets, with the check put right.
+pub fn put_nets(s: &mut [u8], sums: &[u32; 100])
+    ensures { λ _. ⌜ now (s .exit) ≡ withNets (entries (now (sums .entry)) 100) (now (s .entry)) ⌝ }
+{
+    write_entries(s, sums);
+    seal(s);
+}
+
+// The nets of the sender e, from its message's series, into its block s. Below 2 to the 19 series no sum is as great as the 2 to the 52 that
+// the definition adds.
 pub fn write_nets(s: &mut [u8], e: &[u8], series: &[u8])
     requires { ⌜ length (now series) ≤ 268435456 ⌝ }
     ensures { λ _. ⌜ now (s .exit) ≡ withNets (netsOf (now (e .entry)) (cut 512 (now (series .entry)))) (now (s .entry)) ⌝ }
 {
     let mut sums = [0u32; 100];
     add_all(&mut sums, e, series);
-    write_entries(s, &sums);
-    seal(s);
+    put_nets(s, &sums);
+}
+
+// The nets of the sender whose block is s, from its series among the used slots.
+pub fn own_nets(us: &[u8], s: &[u8]) -> [u32; 100]
+    requires { ⌜ length (now us) ≤ 268435456 ⌝ }
+    ensures { λ r. ⌜ entries r 100 ≡ netsOf (sender (now (s .entry))) (ownSeries (cut 512 (now (us .entry))) (sender (now (s .entry)))) ⌝ }
+{
+    let e = sender(s);
+    let mut sums = [0u32; 100];
+    add_own(&mut sums, e, slot_of(us, e), us);
+    sums
 }
 
 // A block that is no sender has no nets to be wrong.
@@ -132,10 +152,7 @@ pub fn nets_true(us: &[u8], s: &[u8]) -> bool
     if !is_sender(s) {
         return true;
     }
-    let e = sender(s);
-    let mut sums = [0u32; 100];
-    add_own(&mut sums, e, slot_of(us, e), us);
     let mut due = [0u8; 512];
-    write_entries(&mut due, &sums);
+    write_entries(&mut due, &own_nets(us, s));
     same(nets(s), nets(&due))
 }

@@ -117,12 +117,13 @@ pair x = part 56 32 x
 unfoldable pub agreement : Block → Bytes
 agreement x = part 88 16 x
 
--- state, first and partner slot
+-- count of differing positions, first and partner slot
 unfoldable pub mark : Block → Bytes
 mark x = part 104 4 x
 
-unfoldable pub state : Block → ℕ
-state x = number 1 104 x
+-- "Byte 104 becomes that count": of the positions at which the counterpart differs
+unfoldable pub differing : Block → ℕ
+differing x = number 1 104 x
 
 unfoldable pub first : Block → ℕ
 first x = number 1 105 x

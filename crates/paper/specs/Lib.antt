@@ -23,6 +23,7 @@ pub mod Opening
 pub mod Clock
 pub mod Readings
 pub mod PlainRun
+pub mod Conversion
 pub mod QuantityText
 pub mod Listing
 -- Demand 3

@@ -6,7 +6,7 @@ use mathlib.Core.List.{List, [], _∷_, _++_}
 use Prim.Native.Nat.{ℕ, _+_}
 use lib.ListN.{length}
 use Rattle.laws.specs.Tests.{less}
-use Rattle.paper.specs.Layout.{Bytes, Block, idOf, sender, sendersSlot, inParty, outParty, state, first, partner}
+use Rattle.paper.specs.Layout.{Bytes, Block, idOf, sender, sendersSlot, inParty, outParty, differing, first, partner}
 use Rattle.paper.specs.Ids.{idText}
 use Rattle.paper.specs.Book.{used, isSeries, numbered}
 use Rattle.paper.specs.Sound.{sound}
@@ -23,7 +23,7 @@ line [] = 10 ∷ []
 line (word ∷ []) = word ++ 10 ∷ []
 line (word ∷ next ∷ words) = word ++ 32 ∷ line (next ∷ words)
 
--- "slot, sender, id, in party, out party, state, first, partner"
+-- "slot, sender, id, in party, out party, state, first, partner", the count "in place of the state"
 unfoldable pub seriesLine : (us : List Block) (slot : ℕ) (x : Block) → Bytes
 seriesLine us slot x =
     line
@@ -32,7 +32,7 @@ seriesLine us slot x =
     ∷ idText (idOf x)
     ∷ inParty x
     ∷ outParty x
-    ∷ decimal (state x)
+    ∷ decimal (differing x)
     ∷ decimal (first x)
     ∷ decimal (partner x)
     ∷ [])
@@ -42,8 +42,9 @@ unfoldable pub seriesLines : (us : List Block) (slot : ℕ) (from : List Block) 
 seriesLines us slot [] = []
 seriesLines us slot (b ∷ from) = cond (isSeries b) (seriesLine us slot b) [] ++ seriesLines us (slot + 1) from
 
+-- "headed "differ""
 unfoldable pub header : Bytes
-header = text "slot sender series in out state first partner\n"
+header = text "slot sender series in out differ first partner\n"
 
 -- "a book of at most 64 blocks"; "too long" or "not sound" otherwise
 unfoldable pub listing : (book : Bytes) → Bytes

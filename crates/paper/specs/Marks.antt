@@ -28,15 +28,37 @@ differenceFrom (suc left) k ours theirs = cond (is (entry ours k) (entry theirs 
 unfoldable pub firstDifference : (n : ℕ) (ours : Bytes) (theirs : Bytes) → ℕ
 firstDifference n ours theirs = differenceFrom n 0 ours theirs
 
--- state, first and partner of a series with quantities ours, whose counterpart has quantities theirs and stands in a slot. "State 1: none …,
--- first 0, partner 0. State 2: all n agree, first 0. State 3: they differ …; first is the lowest such position"
+-- "Byte 104 becomes that count": at how many of the first n positions two lists of quantities differ
+unfoldable pub differences : (n : ℕ) (ours : Bytes) (theirs : Bytes) → ℕ
+differences zero ours theirs = 0
+differences (suc k) ours theirs = differences k ours theirs + cond (is (entry ours k) (entry theirs k)) 0 1
+
+-- count, first and partner of a series with quantities ours, whose counterpart has quantities theirs and stands in a slot. "(0 to n; 0 also when
+-- alone)"; "State 1: none …, first 0, partner 0. State 2: all n agree, first 0. State 3: they differ …; first is the lowest such position"
 unfoldable pub markOf : (n : ℕ) (ours : Bytes) (theirs : Option Bytes) (slot : ℕ) → Bytes
-markOf n ours none slot = 1 ∷ 0 ∷ 0 ∷ 0 ∷ []
-markOf n ours (some theirs) slot = cond (is (firstDifference n ours theirs) 0) 2 3 ∷ firstDifference n ours theirs ∷ little 2 slot
+markOf n ours none slot = 0 ∷ 0 ∷ 0 ∷ 0 ∷ []
+markOf n ours (some theirs) slot = differences n ours theirs ∷ firstDifference n ours theirs ∷ little 2 slot
 
 unfoldable pub markIn : (n : ℕ) (us : List Block) (x : Block) → Bytes
 markIn n us x = markOf n (quantities x) (Option·map quantities (counterpart us x)) (counterpartSlot us x)
 
+-- the states, which no byte holds: a mark's count and partner tell them apart
+abbrev pub alone : ℕ
+alone = 1
+
+abbrev pub agree : ℕ
+agree = 2
+
+abbrev pub differ : ℕ
+differ = 3
+
+unfoldable pub stateOfMark : (differing : ℕ) (partner : ℕ) → ℕ
+stateOfMark differing partner = cond (is differing 0) (cond (is partner 0) alone agree) differ
+
 -- the code of a state: A28 alone, A09 where they differ; 0 where it has none
 unfoldable pub stateCode : (state : ℕ) → ℕ
-stateCode state = cond (is state 1) 28 (cond (is state 3) 9 0)
+stateCode state = cond (is state alone) 28 (cond (is state differ) 9 0)
+
+-- and so of a mark
+unfoldable pub markCode : (differing : ℕ) (partner : ℕ) → ℕ
+markCode differing partner = stateCode (stateOfMark differing partner)

@@ -1,11 +1,12 @@
 -- "Sound book". day is the day block, us are the used slots, s is a sender block and x a series block among them.
 use mathlib.Core.Bool.{Bool, cond}
 use mathlib.Core.List.{List}
+use Prim.Native.Nat.{ℕ}
 use lib.ListN.{length, take, drop}
 use Rattle.laws.specs.Tests.{_and_, _or_, neg, is, upto}
 use Rattle.laws.specs.Lists.{same, every, apart, count}
 use Rattle.paper.specs.Check.{checkRight}
-use Rattle.paper.specs.Layout.{Bytes, Block, blocks, zeros, kind, nOf, lead, clockPlus10080, dayOfBook, area, receiver, dayZeros, version, idOf, seriesCount, sender, dayOfMessage, senderZeros, businessType, contractType, sendersSlot, inArea, outArea, inParty, outParty, pair, agreement, state, first, partner}
+use Rattle.paper.specs.Layout.{Bytes, Block, blocks, zeros, kind, nOf, lead, clockPlus10080, dayOfBook, area, receiver, dayZeros, version, idOf, seriesCount, sender, dayOfMessage, senderZeros, businessType, contractType, sendersSlot, inArea, outArea, inParty, outParty, pair, agreement, differing, first, partner}
 use Rattle.paper.specs.Ranges.{wholeBlocks, nAllowed, leadAllowed, clockAllowed, versionAllowed, countAllowed, quantitiesAllowed, netsAllowed}
 use Rattle.paper.specs.Ids.{idWellFormed, dayWellFormed}
 use Rattle.paper.specs.Eic.{eicValid}
@@ -63,9 +64,9 @@ seriesFields day x = is (nOf x) (nOf day) and versionAllowed (version x) and is 
 unfoldable pub seriesCodes : (day : Block) (x : Block) → Bool
 seriesCodes day x = same (inArea x) (area day) and same (outArea x) (area day) and eicValid (inParty x) and eicValid (outParty x) and zeros (agreement x)
 
--- "state 1 to 3, first at most n"
+-- "first at most n"
 unfoldable pub seriesValues : (day : Block) (x : Block) → Bool
-seriesValues day x = upto 1 (state x) and upto (state x) 3 and upto (first x) (nOf day) and quantitiesAllowed (nOf day) x
+seriesValues day x = upto (first x) (nOf day) and quantitiesAllowed (nOf day) x
 
 unfoldable pub seriesSound : (day : Block) (us : List Block) (x : Block) → Bool
 seriesSound day us x = seriesFields day x and seriesCodes day x and seriesValues day x and ownerSound us x and partnerSound us x
@@ -84,8 +85,13 @@ sameSender a b = isSender a and isSender b and same (sender a) (sender b)
 unfoldable pub sameSeries : (a : Block) (b : Block) → Bool
 sameSeries a b = isSeries a and isSeries b and is (sendersSlot a) (sendersSlot b) and (same (idOf a) (idOf b) or same (pair a) (pair b))
 
-unfoldable pub sound : (book : Bytes) → Bool
-sound book =
+-- byte 104 of a block that is a series: allowed is the test of it, which is told n
+unfoldable pub differingSound : (allowed : ℕ → ℕ → Bool) (n : ℕ) (b : Block) → Bool
+differingSound allowed n b = neg (isSeries b) or allowed n (differing b)
+
+-- soundness over that test
+unfoldable pub soundOver : (allowed : ℕ → ℕ → Bool) (book : Bytes) → Bool
+soundOver allowed book =
     wholeBlocks 2 1001 book
     and every checkRight (blocks book)
     and daySound (dayBlock book)
@@ -93,3 +99,11 @@ sound book =
     and every (usedSound (dayBlock book) (used book)) (used book)
     and apart sameSender (used book)
     and apart sameSeries (used book)
+    and every (differingSound allowed (nOf (dayBlock book))) (used book)
+
+-- "Soundness asks byte 104 at most n"
+unfoldable pub differingAllowed : (n : ℕ) (differing : ℕ) → Bool
+differingAllowed n differing = upto differing n
+
+unfoldable pub sound : (book : Bytes) → Bool
+sound book = soundOver differingAllowed book

@@ -54,11 +54,12 @@ pub struct Reply {
     pub code: u8,
 }
 
-// The kept mark of a series, with the code of its state (28 for A28, 9 for A09, 0 where it has none).
+// The kept mark of a series: at how many positions its counterpart differs, the code of what the mark says (28 for A28, 9 for A09, 0 where it has
+// none), the first of these positions and the counterpart's slot.
 #[repr(C)]
 pub struct MarkAnswer {
     pub number: u32,
-    pub state: u8,
+    pub differ: u8,
     pub code: u8,
     pub first: Position,
     pub partner: Slot,

@@ -1,6 +1,6 @@
--- DEMAND 3, CALL BY CALL: what a promise on one call can cite. An accepted opening begins `Invariant book messages` (a record of Laws/Invariant), every call keeps
--- it, whatever it answers, and what is read of a book that has it is what the accepted messages give. `Later before after` (a record of Words) is what keeps finals.
--- Each proof is one line, as on the page of promises.
+-- DEMAND 3, CALL BY CALL: what a promise on one call can cite. An accepted opening begins `Invariant book messages` (a record of Laws/Invariant), and so does an
+-- accepted conversion; every call keeps it, whatever it answers, and what is read of a book that has it is what the accepted messages give. `Later before after` (a
+-- record of Words) is what keeps finals. Each proof is one line, as on the page of promises.
 use Rattle.laws.specs.Base.{_≡_, true, cond, none, some, Option·getD, Option·map, List, [], ℕ, _<_}
 use Rattle.laws.specs.Tests.{is}
 use Rattle.laws.specs.Lists.{find, nth}
@@ -12,12 +12,14 @@ use Rattle.paper.specs.Acceptance.{submitted}
 use Rattle.paper.specs.Finals.{final}
 use Rattle.paper.specs.Opening.{Opening, openNumber, opened}
 use Rattle.paper.specs.Clock.{clockMoved}
+use Rattle.paper.specs.Conversion.{conversionNumber, converted, keptMessages}
 use Rattle.paper.specs.Readings.{storedAs, markAnswer, acceptedBlock}
 use Rattle.paper.specs.PlainRule.{latest, seriesOfLatest, otherParty}
 use Rattle.facts.specs.Sound.{is-sound, sound-says}
 use Rattle.facts.specs.Nets.{SignedSum}
-use Rattle.promises.specs.Laws.Finals.{later-refl, later-trans, later-clock, later-submission, final-carried}
-use Rattle.promises.specs.Laws.Invariant.{Invariant, invariant-opened, opening-kept, clock-kept, submission-kept}
+use Rattle.facts.specs.Conversion.{conversion-refused}
+use Rattle.promises.specs.Laws.Finals.{later-refl, later-trans, later-clock, later-submission, later-conversion, final-carried, final-converted}
+use Rattle.promises.specs.Laws.Invariant.{Invariant, invariant-opened, invariant-converted, opening-kept, clock-kept, submission-kept, conversion-kept}
 use Rattle.promises.specs.Laws.Readings.{stored-plain, accepted-block-plain, accepted-block-none, mark-reading, partner-reading, net-reading, final-reading}
 use Rattle.promises.specs.Words.{content, finalGiven, messagesAfter, Later, plainStoredAs, plainMarkAnswer, plainFinal}
 
@@ -26,6 +28,14 @@ use Rattle.promises.specs.Words.{content, finalGiven, messagesAfter, Lat
 -- an accepted opening, of any bytes: no message is accepted yet
 pub opening-begins : (buffer : Bytes) (o : Opening) → openNumber buffer o ≡ 0 → Invariant (opened buffer o) []
 opening-begins = invariant-opened
+
+-- an accepted conversion, of any bytes: the series then kept stand as their senders' latest messages
+pub conversion-begins : (book : Bytes) → conversionNumber book ≡ 0 → Invariant (converted book) (keptMessages (used (converted book)))
+conversion-begins = invariant-converted
+
+-- and one that is refused changes nothing
+pub conversion-leaves : (book : Bytes) → (conversionNumber book ≡ 0 → ⊥) → converted book ≡ book
+conversion-leaves = conversion-refused
 
 module _ (book : Bytes) (messages : List Bytes) (holds : Invariant book messages) where
   pub sound-book : sound book ≡ true
@@ -39,6 +49,10 @@ module _ (book : Bytes) (messages : List Bytes) (holds : Invariant book messages
 
   pub submission-keeps : (message : Bytes) → Invariant (submitted book message) (messagesAfter book message messages) × Later book (submitted book message)
   submission-keeps message = (submission-kept book messages message holds, later-submission book message)
+
+  pub conversion-keeps : Invariant (converted book) (cond (is (conversionNumber book) 0) (keptMessages (used (converted book))) messages)
+      × Later book (converted book)
+  conversion-keeps = (conversion-kept book messages holds, later-conversion book)
 
   -- ---- 2. Readings
 
@@ -78,6 +92,14 @@ later-same = later-refl
 pub later-further : (first second third : Bytes) → Later first second → Later second third → Later first third
 later-further = later-trans
 
+-- a conversion of any bytes, accepted or refused
+pub later-converted : (book : Bytes) → Later book (converted book)
+later-converted = later-conversion
+
 pub final-later : (before after : Bytes) → sound after ≡ true → Later before after → (seller buyer : Bytes) (position v : ℕ)
     → final before seller buyer position ≡ finalGiven v → final after seller buyer position ≡ finalGiven v
 final-later before after s = final-carried before after (sound-says after s)
+
+pub final-after-conversion : (book seller buyer : Bytes) (position v : ℕ)
+    → final book seller buyer position ≡ finalGiven v → final (converted book) seller buyer position ≡ finalGiven v
+final-after-conversion = final-converted

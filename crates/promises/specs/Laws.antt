@@ -1,6 +1,7 @@
 -- The reasons for the promises, from what an acceptance does to a block up to all sequences of calls.
 -- an acceptance is read back as it was written
 pub mod Parts
+pub mod Rewritten
 pub mod Stored
 pub mod Marks
 pub mod ReadBack
@@ -15,9 +16,16 @@ pub mod Nets
 pub mod SoundSenders
 pub mod Refusals
 pub mod Soundness
+-- by a conversion too
+pub mod ById
+pub mod OwnSeries
+pub mod ConvertedSlots
+pub mod SoundConverted
 -- demand 3
 pub mod NetsTrue
-pub mod ById
+pub mod PlainRun
+pub mod Conversion
+pub mod KeptMessages
 pub mod Invariant
 pub mod Sides
 pub mod PlainMarks

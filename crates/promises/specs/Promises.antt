@@ -4,11 +4,11 @@ use Rattle.laws.specs.Base.{_≡_, true, false, none, some, Option·getD, Optio
 use Rattle.laws.specs.Lists.{find, nth, All}
 use Rattle.laws.specs.Bytes.{little}
 use Rattle.paper.specs.Layout.{Bytes, Block, sender, nets, net, sendersSlot, pair, mark, partner, quantities, quantity}
-use Rattle.paper.specs.Book.{dayBlock, used, freeSlots, isSeries, isSenderBlockOf, slotOf, isSeriesOf, isSeriesOfPair, ownSender, ownSeries}
+use Rattle.paper.specs.Book.{dayBlock, used, freeSlots, isSender, isSeries, isSenderBlockOf, slotOf, isSeriesOf, isSeriesOfPair, ownSender, ownSeries}
 use Rattle.paper.specs.Sound.{sound}
 use Rattle.paper.specs.Message.{headOf}
 use Rattle.paper.specs.Rules.{numberOf, verdict}
-use Rattle.paper.specs.Marks.{firstDifference, markOf}
+use Rattle.paper.specs.Marks.{firstDifference, differences, markOf}
 use Rattle.paper.specs.Nets.{bought, sold, netOf}
 use Rattle.paper.specs.Acceptance.{accepted, submitted}
 use Rattle.paper.specs.PlainRun.{plainRun}
@@ -16,21 +16,28 @@ use Rattle.paper.specs.Finals.{held, final}
 use Rattle.paper.specs.Readings.{markAnswer, acceptedBlock}
 use Rattle.paper.specs.Opening.{Opening, openNumber, opened}
 use Rattle.paper.specs.Clock.{clockAnswer, clockMoved}
+use Rattle.paper.specs.Conversion.{conversionNumber, converted, keptMessages}
 use Rattle.paper.specs.PlainRule.{latest, seriesOfLatest, plainHeld, otherParty, plainMark, plainNets}
 use Rattle.paper.specs.Calls.{Call, Desk, run}
+use Rattle.facts.specs.Sound.{sound-says}
 use Rattle.facts.specs.Verdict.{accepts}
-use Rattle.facts.specs.Marks.{Agree, Differ, no-difference-agree, difference-differ, mark-agree, mark-differ}
+use Rattle.facts.specs.Conversion.{converts, conversion-refused}
+use Rattle.facts.specs.Marks.{Agree, Differ, no-difference-agree, difference-differ, agree-no-differences, no-differences-agree, no-differences-no-difference, no-difference-no-differences, differences-most, mark-agree, mark-differ}
 use Rattle.facts.specs.Nets.{SignedSum, net-signed}
+use Rattle.promises.specs.Laws.Conversion.{series-stays, sender-stays, true-book-stays}
 use Rattle.promises.specs.Laws.Finals.{final-stays}
-use Rattle.promises.specs.Laws.Invariant.{Invariant, held-plain, content-plain, invariant-opened, invariant-run}
+use Rattle.promises.specs.Laws.Invariant.{Invariant, held-plain, content-plain, invariant-run, invariant-begun}
 use Rattle.promises.specs.Laws.Isolation.{verdict-isolated, determined}
+use Rattle.promises.specs.Laws.KeptMessages.{head-of-latest-kept, series-of-latest-kept}
 use Rattle.promises.specs.Laws.Others.{others-kept, rest-kept}
 use Rattle.promises.specs.Laws.PlainMarks.{sender-named, mark-plain, partner-plain, says-yes}
 use Rattle.promises.specs.Laws.ReadBack.{day-block-accepted}
 use Rattle.promises.specs.Laws.Refusals.{opening-refused, clock-refused, submission-refused}
 use Rattle.promises.specs.Laws.Soundness.{opened-sound, moved-sound, submitted-sound}
-use Rattle.promises.specs.Kept.{sound-book, accepted-block-as-sent, no-accepted-block, mark-as-ruled, partner-as-ruled, net-as-summed, final-as-sent}
-use Rattle.promises.specs.Words.{content, SameContents, headContent, ButMark, begun, reached, Unopened, finalGiven, plainContent, plainHeadContent, plainStoredAs, plainMarkAnswer, plainFinal, isCounterpartOf, Determines}
+use Rattle.promises.specs.Laws.ConvertedSlots.{used-converted-length, day-block-converted, converted-book-length, rest-converted}
+use Rattle.promises.specs.Laws.SoundConverted.{converted-sound}
+use Rattle.promises.specs.Kept.{sound-book, accepted-block-as-sent, no-accepted-block, mark-as-ruled, partner-as-ruled, net-as-summed, final-as-sent, final-after-conversion}
+use Rattle.promises.specs.Words.{content, SameContents, headContent, ButMark, Starts, begun, reached, Unopened, finalGiven, plainContent, plainHeadContent, plainStoredAs, plainMarkAnswer, plainFinal, isCounterpartOf, Determines}
 
 -- ---- 1. Soundness is kept, and a refusal changes nothing
 
@@ -43,6 +50,9 @@ clock-move-keeps-soundness = moved-sound
 pub submission-keeps-soundness : (book message : Bytes) → numberOf (verdict book message) ≡ 0 → sound (submitted book message) ≡ true
 submission-keeps-soundness = submitted-sound
 
+pub conversion-gives-a-sound-book : (book : Bytes) → conversionNumber book ≡ 0 → sound (converted book) ≡ true
+conversion-gives-a-sound-book = converted-sound
+
 pub refused-opening-changes-nothing : (book : Bytes) (o : Opening) → (openNumber book o ≡ 0 → ⊥) → opened book o ≡ book
 refused-opening-changes-nothing = opening-refused
 
@@ -52,17 +62,21 @@ refused-clock-move-changes-nothing = clock-refused
 pub refused-submission-changes-nothing : (book message : Bytes) → (numberOf (verdict book message) ≡ 0 → ⊥) → submitted book message ≡ book
 refused-submission-changes-nothing = submission-refused
 
+pub refused-conversion-changes-nothing : (book : Bytes) → (conversionNumber book ≡ 0 → ⊥) → converted book ≡ book
+refused-conversion-changes-nothing = conversion-refused
+
 -- ---- 2. Demand 3, marks and nets
--- For every buffer, every accepted opening o and every sequence of calls after it: openings, clock moves, submissions and readings, accepted or refused, in any
--- order, with any contents.
--- `book` is the book after them and `messages` are those accepted since the last opening, oldest first. The plain rule reads these messages and nothing of the
--- book. What one call keeps of this stands in Kept, for promises on calls to cite.
+-- For every buffer, every start, which is an accepted opening or an accepted conversion, and every sequence of calls after it: openings, conversions, clock moves,
+-- submissions and readings, accepted or refused, in any order, with any contents.
+-- `book` is the book after them and `messages` are those accepted since the last accepted opening or conversion, oldest first; a conversion begins them with one message
+-- for each sender, made of the blocks that it kept. The plain rule reads these messages and nothing of the book. What one call keeps of this stands in Kept, for
+-- promises on calls to cite.
 
-module _ (buffer : Bytes) (o : Opening) (accepted-opening : openNumber buffer o ≡ 0) (calls : List Call) where
-  open Desk (reached buffer o calls) using (book, messages)
+module _ (buffer : Bytes) (start : Call) (starts : Starts buffer start) (calls : List Call) where
+  open Desk (reached buffer start calls) using (book, messages)
 
-  holds : Invariant ((reached buffer o calls) .book) ((reached buffer o calls) .messages)
-  holds = invariant-run (begun buffer o) calls (invariant-opened buffer o accepted-opening)
+  holds : Invariant ((reached buffer start calls) .book) ((reached buffer start calls) .messages)
+  holds = invariant-run (begun buffer start) calls (invariant-begun buffer start starts)
 
   pub reached-book-is-sound : sound book ≡ true
   reached-book-is-sound = sound-book _ _ holds
@@ -84,12 +98,13 @@ module _ (buffer : Bytes) (o : Opening) (accepted-opening : openNumber buffer o 
   pub every-series-has-a-sender : (slot : ℕ) (x : Block) → nth (used book) slot ≡ some x → isSeries x ≡ true → (e : Bytes) × (slotOf (used book) e ≡ sendersSlot x)
   every-series-has-a-sender = sender-named _ _ holds
 
-  -- the mark kept beside it is the plain rule's, the slot in it apart
+  -- the mark kept beside it is the plain rule's, the slot in it apart: the count of the positions that differ and the first of them
   pub marks-are-the-plain-rules : (slot : ℕ) (x : Block) → nth (used book) slot ≡ some x → isSeries x ≡ true → (e : Bytes) → slotOf (used book) e ≡ sendersSlot x
       → mark x ≡ plainMark messages e (pair x) (partner x)
   marks-are-the-plain-rules = mark-plain _ _ holds
 
-  -- that slot holds the series which the plain rule found: the other party's, with the same pair and with the quantities q that it last sent
+  -- that slot holds the series which the plain rule found: the other party's, with the same pair and with the quantities q that it last sent. By this a series whose
+  -- counterpart agrees is told from one that stands alone
   pub partners-are-the-plain-rules : (slot : ℕ) (x : Block) → nth (used book) slot ≡ some x → isSeries x ≡ true → (e : Bytes) → slotOf (used book) e ≡ sendersSlot x
       → (q : Bytes) → plainHeld messages (otherParty e (pair x)) (pair x) ≡ some q
       → (y : Block) × (nth (used book) (partner x) ≡ some y) × (isSeries y ≡ true) × (slotOf (used book) (otherParty e (pair x)) ≡ sendersSlot y)
@@ -126,11 +141,12 @@ module _ (buffer : Bytes) (o : Opening) (accepted-opening : openNumber buffer o 
   pub finals-are-the-latest-messages : (seller buyer : Bytes) (p : ℕ) → final book seller buyer p ≡ plainFinal (dayBlock book) messages seller buyer p
   finals-are-the-latest-messages = final-as-sent _ _ holds
 
-  -- ---- 3. Demand 3, finals: a final value v once given for a pair and a position p is given unchanged after any further calls, until the book is opened again
+  -- ---- 3. Demand 3, finals: a final value v once given for a pair and a position p is given unchanged after any further calls, conversions among them, until the book
+  -- is opened again
 
-  pub finals-stay : (further : List Call) → Unopened (reached buffer o calls) further → (seller buyer : Bytes) (p v : ℕ)
-      → final book seller buyer p ≡ finalGiven v → final ((run (reached buffer o calls) further) .book) seller buyer p ≡ finalGiven v
-  finals-stay further = final-stays (reached buffer o calls) further holds
+  pub finals-stay : (further : List Call) → Unopened (reached buffer start calls) further → (seller buyer : Bytes) (p v : ℕ)
+      → final book seller buyer p ≡ finalGiven v → final ((run (reached buffer start calls) further) .book) seller buyer p ≡ finalGiven v
+  finals-stay further = final-stays (reached buffer start calls) further holds
 
   -- ---- 4. The plain run says yes
 
@@ -163,12 +179,45 @@ pub free-slots-stay : (book message : Bytes) → numberOf (verdict book message)
     → drop (512 + 512 * length (used (accepted book message))) (accepted book message) ≡ drop (512 + 512 * length (used (accepted book message))) book
 free-slots-stay book message e = rest-kept book message (accepts book message e)
 
+-- A conversion leaves the day block, and so n, lead and clock; it leaves the length, the number of used slots and everything behind them; each series keeps its slot
+-- and every byte but mark and check, each sender its slot and every byte but nets and check
+
+pub conversion-keeps-the-day-block : (book : Bytes) → conversionNumber book ≡ 0 → dayBlock (converted book) ≡ dayBlock book
+conversion-keeps-the-day-block book e = day-block-converted book (converts book e)
+
+pub conversion-keeps-the-length : (book : Bytes) → conversionNumber book ≡ 0 → length (converted book) ≡ length book
+conversion-keeps-the-length book e = converted-book-length book (converts book e)
+
+pub conversion-keeps-each-series : (book : Bytes) → conversionNumber book ≡ 0 → (slot : ℕ) (x : Block) → nth (used book) slot ≡ some x → isSeries x ≡ true
+    → (y : Block) × (nth (used (converted book)) slot ≡ some y) × ButMark x y
+conversion-keeps-each-series book e = series-stays book (converts book e)
+
+pub conversion-keeps-each-sender : (book : Bytes) → conversionNumber book ≡ 0 → (slot : ℕ) (s : Block) → nth (used book) slot ≡ some s → isSender s ≡ true
+    → (y : Block) × (nth (used (converted book)) slot ≡ some y) × (headContent y ≡ headContent s)
+conversion-keeps-each-sender book e = sender-stays book (converts book e)
+
+pub conversion-uses-no-further-slot : (book : Bytes) → conversionNumber book ≡ 0 → length (used (converted book)) ≡ length (used book)
+conversion-uses-no-further-slot book e = used-converted-length book (converts book e)
+
+pub conversion-keeps-the-rest : (book : Bytes) → conversionNumber book ≡ 0
+    → drop (512 + 512 * length (used book)) (converted book) ≡ drop (512 + 512 * length (used book)) book
+conversion-keeps-the-rest book e = rest-converted book (converts book e)
+
+-- with the quantities stays every final that the book gave before, whoever made it
+pub conversion-keeps-finals : (book seller buyer : Bytes) (p v : ℕ) → final book seller buyer p ≡ finalGiven v → final (converted book) seller buyer p ≡ finalGiven v
+conversion-keeps-finals = final-after-conversion
+
+-- and a book of bytes whose marks and nets are all true stays as it is
+pub converting-a-true-book-changes-nothing : (book : Bytes) → All (λ byte. byte < 256) book → plainRun book ≡ record { number = 0; holds = true }
+    → converted book ≡ book
+converting-a-true-book-changes-nothing = true-book-stays
+
 -- ---- 7. Determinacy: a promise of the form used here, answer and lent bytes each equal to a function of the inputs, allows one outcome
 
 pub promises-determine : {I A : Type 0} (answer : I → A) (bytes : I → Bytes) → Determines {I = I} {A = A} (λ i r x. (r ≡ answer i) × (x ≡ bytes i))
 promises-determine = determined
 
--- ---- 8. What marks and nets are
+-- ---- 8. What marks, nets and a conversion's messages are
 -- Facts of the definitions that demand 3 speaks in: `Agree`, `Differ` and `SignedSum` are of crates/facts, `Marks` and `Nets`.
 
 -- the first difference is 0 exactly where all n quantities agree, else the lowest position of the n at which they differ
@@ -178,12 +227,38 @@ no-first-difference = no-difference-agree
 pub first-difference : (ours theirs : Bytes) (n k : ℕ) → firstDifference n ours theirs ≡ k + 1 → Differ n ours theirs k
 first-difference = difference-differ
 
+-- the count of differences is 0 exactly where all n quantities agree, and so exactly where the first difference is; it is at most n
+pub no-differences-where-all-agree : (ours theirs : Bytes) (n : ℕ) → Agree n ours theirs → differences n ours theirs ≡ 0
+no-differences-where-all-agree = agree-no-differences
+
+pub no-differences-only-where-all-agree : (ours theirs : Bytes) (n : ℕ) → differences n ours theirs ≡ 0 → Agree n ours theirs
+no-differences-only-where-all-agree = no-differences-agree
+
+pub first-is-0-where-the-count-is-0 : (ours theirs : Bytes) (n : ℕ) → differences n ours theirs ≡ 0 → firstDifference n ours theirs ≡ 0
+first-is-0-where-the-count-is-0 = no-differences-no-difference
+
+pub first-is-0-only-where-the-count-is-0 : (ours theirs : Bytes) (n : ℕ) → firstDifference n ours theirs ≡ 0 → differences n ours theirs ≡ 0
+first-is-0-only-where-the-count-is-0 = no-difference-no-differences
+
+pub count-is-at-most-n : (ours theirs : Bytes) (n : ℕ) → differences n ours theirs ≤ n
+count-is-at-most-n = differences-most
+
 -- and so the mark beside a counterpart is
-pub mark-where-all-agree : (ours theirs : Bytes) (n slot : ℕ) → Agree n ours theirs → markOf n ours (some theirs) slot ≡ 2 ∷ 0 ∷ little 2 slot
+pub mark-where-all-agree : (ours theirs : Bytes) (n slot : ℕ) → Agree n ours theirs → markOf n ours (some theirs) slot ≡ 0 ∷ 0 ∷ little 2 slot
 mark-where-all-agree = mark-agree
 
-pub mark-where-they-differ : (ours theirs : Bytes) (n slot k : ℕ) → Differ n ours theirs k → markOf n ours (some theirs) slot ≡ 3 ∷ (k + 1) ∷ little 2 slot
+pub mark-where-they-differ : (ours theirs : Bytes) (n slot k : ℕ) → Differ n ours theirs k
+    → markOf n ours (some theirs) slot ≡ differences n ours theirs ∷ (k + 1) ∷ little 2 slot
 mark-where-they-differ = mark-differ
+
+-- the messages that a conversion begins with: the latest of each sender e is its sender block and its series, as the sound book keeps them
+pub kept-senders-stand-as-the-latest-messages : (book : Bytes) → sound book ≡ true → (e : Bytes)
+    → Option·map headOf (latest e (keptMessages (used book))) ≡ find (isSenderBlockOf e) (used book)
+kept-senders-stand-as-the-latest-messages book s = head-of-latest-kept book (sound-says book s)
+
+pub kept-series-stand-as-the-latest-messages : (book : Bytes) → sound book ≡ true → (e : Bytes)
+    → seriesOfLatest (latest e (keptMessages (used book))) ≡ ownSeries (used book) e
+kept-series-stand-as-the-latest-messages book s = series-of-latest-kept book (sound-says book s)
 
 -- a net's word is the signed sum, exact within ±1,999,999,800, which no sum of a message's quantities passes
 pub nets-are-signed-sums : (e : Bytes) (series : List Block) (k : ℕ) → length series ≤ 200 → All (λ x. quantity x k ≤ 9999999) series

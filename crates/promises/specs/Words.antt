@@ -1,5 +1,5 @@
--- The words of the promises that are not the paper's: what is kept of a block, a desk just opened, the desk after some calls, calls that do not open the book
--- again, what keeps finals, the readings in terms of the accepted messages, and a promise that determines what it promises.
+-- The words of the promises that are not the paper's: what is kept of a block, the call that a desk begins with, the desk after some calls, calls that do not open the
+-- book again, what keeps finals, the readings in terms of the accepted messages, and a promise that determines what it promises.
 use Rattle.laws.specs.Base.{_≡_, Bool, true, cond, Option, none, some, Option·map, List, [], _∷_, _++_, ℕ, _+_, _-_, _≤_, _<_}
 use Rattle.laws.specs.Tests.{_and_, _or_, neg, is, less}
 use Rattle.laws.specs.Lists.{same, find, has}
@@ -12,10 +12,11 @@ use Rattle.paper.specs.Message.{headOf}
 use Rattle.paper.specs.Rules.{numberOf, closed, verdict}
 use Rattle.paper.specs.Marks.{isCounterpart}
 use Rattle.paper.specs.Finals.{finalOf, held, isHeld, heldAt, finalRefused}
-use Rattle.paper.specs.Readings.{markAnswerOf}
-use Rattle.paper.specs.Opening.{Opening, openNumber, opened}
+use Rattle.paper.specs.Readings.{markGiven, markRefused}
+use Rattle.paper.specs.Opening.{openNumber}
+use Rattle.paper.specs.Conversion.{conversionNumber}
 use Rattle.paper.specs.PlainRule.{latest, seriesOfLatest, plainHeld, plainMark}
-use Rattle.paper.specs.Calls.{Call, Desk, step, run, clockMove, submission, reading, opening}
+use Rattle.paper.specs.Calls.{Call, Desk, step, run, opening, clockMove, submission, conversion, reading}
 
 -- the bytes of a series but sender's slot, mark and check
 unfoldable pub content : Block → Bytes
@@ -38,19 +39,28 @@ pub record ButMark (x y : Block) : Type 0 where
   pub before-mark : (o n : ℕ) → o + n ≤ 104 → part o n y ≡ part o n x
   pub after-mark : (o n : ℕ) → 108 ≤ o → o + n ≤ 508 → part o n y ≡ part o n x
 
--- the desk after an opening, with no message accepted yet
-abbrev pub begun : Bytes → Opening → Desk
-begun book o = record { book = opened book o; messages = [] }
+-- the call that a desk begins with, on whatever bytes: an accepted opening, or an accepted conversion
+abbrev pub Starts : Bytes → Call → Type 0
+Starts buffer (opening o) = openNumber buffer o ≡ 0
+Starts buffer conversion = conversionNumber buffer ≡ 0
+Starts buffer (clockMove minute) = ⊥
+Starts buffer (submission m) = ⊥
+Starts buffer reading = ⊥
+
+-- the desk after it: with no message after an opening, with those kept after a conversion
+abbrev pub begun : Bytes → Call → Desk
+begun buffer start = step (record { book = buffer; messages = [] }) start
 
 -- and after further calls
-abbrev pub reached : Bytes → Opening → List Call → Desk
-reached book o calls = run (begun book o) calls
+abbrev pub reached : Bytes → Call → List Call → Desk
+reached buffer start calls = run (begun buffer start) calls
 
--- the call c on the desk k is no accepted opening: a refused one is allowed
+-- the call c on the desk k is no accepted opening: a refused one is allowed, and any conversion
 abbrev pub NotOpened : Desk → Call → Type 0
 NotOpened k (opening o) = openNumber (k .book) o ≡ 0 → ⊥
 NotOpened k (clockMove minute) = Unit {0}
 NotOpened k (submission m) = Unit {0}
+NotOpened k conversion = Unit {0}
 NotOpened k reading = Unit {0}
 
 -- none of the calls is, each judged on the desk as it then is
@@ -58,7 +68,7 @@ abbrev pub Unopened : Desk → List Call → Type 0
 Unopened k [] = Unit {0}
 Unopened k (c ∷ cs) = NotOpened k c × Unopened (step k c) cs
 
--- the messages accepted since the last opening, oldest first, after the submission of one more: it is among them exactly where it is answered 0
+-- the messages accepted since the desk last began, oldest first, after the submission of one more: it is among them exactly where it is answered 0
 unfoldable pub messagesAfter : (book : Bytes) (message : Bytes) (messages : List Bytes) → List Bytes
 messagesAfter book message messages = cond (is (numberOf (verdict book message)) 0) (messages ++ message ∷ []) messages
 
@@ -86,13 +96,13 @@ unfoldable pub plainStoredAs : (messages : List Bytes) (e : Bytes) (id : Bytes) 
 plainStoredAs messages e id = find (idIs id) (seriesOfLatest (latest e messages))
 
 -- the answer to who asks for a mark, from the mark's bytes
-unfoldable pub markGiven : (mark : Bytes) → MarkAnswer
-markGiven mark = markAnswerOf 0 (number 1 0 mark) (number 1 1 mark) (number 2 2 mark)
+unfoldable pub markTold : (mark : Bytes) → MarkAnswer
+markTold mark = markGiven (number 1 0 mark) (number 1 1 mark) (number 2 2 mark)
 
 -- the plain rule's mark of a series y that sender e last sent, its counterpart standing in a slot
 unfoldable pub plainMarkFound : (messages : List Bytes) (e : Bytes) (slot : ℕ) (found : Option Block) → MarkAnswer
-plainMarkFound messages e slot none = markAnswerOf 23 0 0 0
-plainMarkFound messages e slot (some y) = markGiven (plainMark messages e (pair y) slot)
+plainMarkFound messages e slot none = markRefused 23
+plainMarkFound messages e slot (some y) = markTold (plainMark messages e (pair y) slot)
 
 unfoldable pub plainMarkAnswer : (messages : List Bytes) (e : Bytes) (id : Bytes) (slot : ℕ) → MarkAnswer
 plainMarkAnswer messages e id slot = plainMarkFound messages e slot (plainStoredAs messages e id)

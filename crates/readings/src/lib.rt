@@ -3,22 +3,22 @@ ghost use mathlib.Core.Path.{_≡_};
 ghost use Rattle.laws.specs.Tests.{_and_};
 ghost use Rattle.laws.specs.Lists.{place};
 ghost use Rattle.laws.specs.Cut.{cut};
-ghost use Rattle.paper.specs.Layout.{state, first, partner};
+ghost use Rattle.paper.specs.Layout.{differing, first, partner};
 ghost use Rattle.paper.specs.Book.{isSeriesOf, idIs};
-ghost use Rattle.paper.specs.Readings.{isStoredAs, storedAs, markAnswerOf, markFound, markAnswer, acceptedBlock};
+ghost use Rattle.paper.specs.Readings.{isStoredAs, storedAs, markGiven, markRefused, markFound, markAnswer, acceptedBlock};
 ghost use Rattle.paper.specs.Finals.{final};
 
 pub mod finals;
 
-use codes::state_code;
+use codes::mark_code;
 use field::part_of;
 use field::same;
 use finals::final_in;
 use finals::final_refused;
+use layout::differing;
 use layout::first;
 use layout::id_of;
 use layout::partner;
-use layout::state;
 use paper::FinalAnswer;
 use paper::MarkAnswer;
 use paper::Position;
@@ -57,11 +57,11 @@ pub fn stored_as(us: &[u8], sender: &[u8], id: &[u8]) -> Slot
 }
 
 fn mark_refused(number: u32) -> MarkAnswer
-    ensures { λ r. ⌜ r ≡ markAnswerOf number 0 0 0 ⌝ }
+    ensures { λ r. ⌜ r ≡ markRefused number ⌝ }
 {
     MarkAnswer {
         number: number,
-        state: 0,
+        differ: 0,
         code: 0,
         first: Position(0),
         partner: Slot(0),
@@ -69,15 +69,16 @@ fn mark_refused(number: u32) -> MarkAnswer
 }
 
 fn mark_of(x: &[u8]) -> MarkAnswer
-    ensures { λ r. ⌜ r ≡ markAnswerOf 0 (state (now (x .entry))) (first (now (x .entry))) (partner (now (x .entry))) ⌝ }
+    ensures { λ r. ⌜ r ≡ markGiven (differing (now (x .entry))) (first (now (x .entry))) (partner (now (x .entry))) ⌝ }
 {
-    let state = state(x);
+    let differing = differing(x);
+    let partner = partner(x);
     MarkAnswer {
         number: 0,
-        state: state,
-        code: state_code(state),
+        differ: differing,
+        code: mark_code(differing, partner),
         first: first(x),
-        partner: partner(x),
+        partner: partner,
     }
 }
 

@@ -5,7 +5,7 @@ use mathlib.Core.Bool.{Bool, cond}
 use mathlib.Core.List.{List, [], _∷_}
 use Prim.Native.Nat.{ℕ, zero, suc, _+_}
 use lib.ListN.{length, drop}
-use Rattle.laws.specs.Tests.{is, less}
+use Rattle.laws.specs.Tests.{_or_, is, less}
 use Rattle.laws.specs.Bytes.{number}
 use Rattle.paper.specs.declared.OpenAnswer.{OpenAnswer}
 use Rattle.paper.specs.declared.ClockAnswer.{ClockAnswer}
@@ -27,6 +27,7 @@ use Rattle.paper.specs.Rules.{verdict}
 use Rattle.paper.specs.Acceptance.{submitted}
 use Rattle.paper.specs.Opening.{Opening, openAnswer, opened}
 use Rattle.paper.specs.Clock.{clockAnswer, clockMoved}
+use Rattle.paper.specs.Conversion.{conversionNumber, converted}
 use Rattle.paper.specs.Readings.{markAnswer, acceptedBlock}
 use Rattle.paper.specs.Finals.{final}
 use Rattle.paper.specs.PlainRun.{plainRun}
@@ -51,7 +52,7 @@ unfoldable pub verdictTold : Verdict → List ℕ
 verdictTold v = v .number ∷ v .code ∷ v .series ∷ v .position .0 ∷ v .character ∷ []
 
 unfoldable pub markTold : MarkAnswer → List ℕ
-markTold m = m .number ∷ m .state ∷ m .first .0 ∷ m .partner .0 ∷ []
+markTold m = m .number ∷ m .differ ∷ m .first .0 ∷ m .partner .0 ∷ []
 
 unfoldable pub finalTold : FinalAnswer → List ℕ
 finalTold f = f .number ∷ f .kilowatts ∷ []
@@ -149,13 +150,15 @@ unfoldable pub dayNumbers : (tag : ℕ) (book body : Bytes) → List ℕ
 dayNumbers tag book body =
     cond (is tag 5) (openNumbers book body)
     (cond (is tag 6) (clockTold (clockAnswer book (number 2 0 body)))
-    (verdictTold (verdict book body)))
+    (cond (is tag 7) (verdictTold (verdict book body))
+    (conversionNumber book ∷ [])))
 
 unfoldable pub dayAfter : (tag : ℕ) (book body : Bytes) → Bytes
 dayAfter tag book body =
     cond (is tag 5) (openAfter book body)
     (cond (is tag 6) (clockMoved book (number 2 0 body))
-    (submitted book body))
+    (cond (is tag 7) (submitted book body)
+    (converted book)))
 
 -- ---- calls whose lines show bytes
 
@@ -182,13 +185,17 @@ printLine body =
 unfoldable pub sealLine : (block : Bytes) → Bytes
 sealLine block = answerLine (wordOf 21) [] (sealed block)
 
--- ---- every record whose line is made of a book and a body: tags 3 to 23; tags 1 and 2, `length` and `bytes`, are not asked of it (stream, specs/Buffer)
+-- ---- every record whose line is made of a book and a body: tags 3 to 25; tags 1 and 2, `length` and `bytes`, are not asked of it (stream, specs/Buffer)
+
+-- tags 5 to 7 and those above 23: open, clock, submit and convert may change the book
+unfoldable pub mayChange : (tag : ℕ) → Bool
+mayChange tag = less tag 8 or less 23 tag
 
 -- tag 23, `judge`, is told what a submission would be
 unfoldable pub numbersTold : (tag : ℕ) (book body : Bytes) → List ℕ
 numbersTold tag book body =
     cond (less tag 5) (bufferNumbers tag book)
-    (cond (less tag 8) (dayNumbers tag book body)
+    (cond (mayChange tag) (dayNumbers tag book body)
     (cond (less tag 16) (readingNumbers tag book body)
     (cond (is tag 23) (verdictTold (verdict book body))
     (leafNumbers tag body))))
@@ -202,6 +209,6 @@ lineOf tag book body =
     (cond (is tag 21) (sealLine body)
     (toldLine tag (numbersTold tag book body))))))
 
--- the book after it: open, clock and submit may change it
+-- the book after it
 unfoldable pub bookAfter : (tag : ℕ) (book body : Bytes) → Bytes
-bookAfter tag book body = cond (less tag 5) book (cond (less tag 8) (dayAfter tag book body) book)
+bookAfter tag book body = cond (less tag 5) book (cond (mayChange tag) (dayAfter tag book body) book)

@@ -1,8 +1,10 @@
-// The calls that may change the book: open, clock, submit; and judge, which tells what submit would.
+// The calls that may change the book: open, clock, submit, convert; and judge, which tells what submit would.
 ghost use mathlib.Core.Path.{_≡_};
+ghost use mathlib.Core.List.{[], _∷_};
 ghost use Rattle.paper.specs.Rules.{verdict};
 ghost use Rattle.paper.specs.Acceptance.{submitted};
 ghost use Rattle.paper.specs.Clock.{clockAnswer, clockMoved};
+ghost use Rattle.paper.specs.Conversion.{conversionNumber, converted};
 ghost use Rattle.stream.specs.Told.{numbersOf};
 ghost use Rattle.replay_answers.specs.Answers.{clockTold, verdictTold, openNumbers, openAfter, dayNumbers, dayAfter};
 use block::numbers::byte_or_zero;
@@ -15,6 +17,7 @@ use stream::told::Told;
 use stream::told::five;
 use stream::told::four;
 use stream::told::nothing;
+use stream::told::one;
 use stream::told::two;
 
 // One byte of n, two of lead, then the names of day, area and receiver.
@@ -76,12 +79,19 @@ pub fn judge(book: &[u8], message: &[u8]) -> Told
     verdict_told(judge::verdict(book, message))
 }
 
+fn convert(book: &mut [u8]) -> Told
+    ensures { λ r. ⌜ (numbersOf r ≡ conversionNumber (now (book .entry)) ∷ []) × (now (book .exit) ≡ converted (now (book .entry))) ⌝ }
+{
+    one(conversion::convert(book) as usize)
+}
+
 pub fn numbers(tag: u8, book: &mut [u8], body: &[u8]) -> Told
     ensures { λ r. ⌜ (numbersOf r ≡ dayNumbers tag (now (book .entry)) (now (body .entry))) × (now (book .exit) ≡ dayAfter tag (now (book .entry)) (now (body .entry))) ⌝ }
 {
     match tag {
         5 => open(book, body),
         6 => clock(book, Minute(number_2(body, 0))),
-        _ => submit(book, body),
+        7 => submit(book, body),
+        _ => convert(book),
     }
 }

@@ -21,7 +21,7 @@ fn numbers(tag: u8, book: &mut [u8], body: &[u8]) -> Told
     if tag < 5 {
         return buffer::numbers(tag, book);
     }
-    if tag < 8 {
+    if (tag < 8) | (23 < tag) {
         return day_calls::numbers(tag, book, body);
     }
     if tag < 16 {

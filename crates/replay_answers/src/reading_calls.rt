@@ -25,7 +25,7 @@ fn mark(book: &[u8], body: &[u8]) -> Told
         return nothing();
     }
     let m = readings::mark(book, name(body, 0), name(body, id));
-    four(m.number as usize, m.state as usize, m.first.0, m.partner.0)
+    four(m.number as usize, m.differ as usize, m.first.0, m.partner.0)
 }
 
 // The names of the out party and of the in party, then two bytes of position.

@@ -37,7 +37,7 @@ pub fn reader(body: &[u8], line: &mut [u8]) -> usize
 pub fn listing(book: &[u8], line: &mut [u8]) -> usize
     ensures { λ r. ⌜ Put 0 (listingLine (now (book .entry))) r (now (line .entry)) (now (line .exit)) ⌝ }
 {
-    let mut text = [0u8; 5590];
+    let mut text = [0u8; 5591];
     let n = listing_text::listing(book, &mut text);
     answer_with(line, 14, nothing(), part_of(&text, 0, n))
 }

@@ -1,4 +1,5 @@
 -- Blocks by number, a free block, and the used slots as a part of a book's bytes, as the code finds them.
+pub mod Lent
 use Rattle.laws.specs.Kit.{_≡_, refl, sym, ap, _∙_, Bool, false, List, [], _∷_, ℕ, zero, suc, _+_, _-_, _*_, _/_, _≤_, _<_, add-sub-cancel-left, arith, length, take, drop, getD, List·getD-eq-default, drop-of-length-le, _and_, is, split, is-yes}
 use Rattle.laws.specs.Lists.{every, until}
 use Rattle.laws.specs.Lists.Keep.{until-take, until-length}

@@ -1,11 +1,14 @@
-// A sound book: document 01's paragraph, clause by clause.
+// A sound book: document 01's paragraph, clause by clause. The old layout is that of the books before C-16, whose byte 104 holds a state: everything
+// else is asked of both alike, and once.
 ghost use mathlib.Core.Path.{_≡_};
 ghost use Prim.Native.Nat.{_/_, _≤_};
 ghost use lib.ListN.{length};
 ghost use Rattle.laws.specs.Lists.{every};
 ghost use Rattle.laws.specs.Cut.{cut};
 ghost use Rattle.paper.specs.Layout.{nOf};
-ghost use Rattle.paper.specs.Sound.{sound};
+ghost use Rattle.paper.specs.Sound.{soundOver, sound};
+ghost use Rattle.paper.specs.Conversion.{oldSound};
+ghost use Rattle.sound_blocks.specs.Layouts.{allowedIn};
 ghost use Rattle.sound.specs.Used.{usedFields, linkedSound, eachUsed, filledSound};
 ghost use Rattle.sound.specs.Links.{Grouped};
 
@@ -20,6 +23,8 @@ use field::all_zero;
 use field::part_of;
 use index::no_heads;
 use index::no_nexts;
+use layout::differing;
+use layout::n_of;
 use links::link;
 use links::no_tags;
 use links::tag;
@@ -28,30 +33,31 @@ use slots::is_sender;
 use slots::is_series;
 use slots::used_count;
 use sound_blocks::day::day_sound;
+use sound_blocks::ranges::differing_allowed;
 use sound_blocks::ranges::whole_blocks;
 use sound_blocks::sender::sender_day;
 use sound_blocks::sender::sender_fields;
 use sound_blocks::series::series_sound;
 
-fn used_fields(d: &[u8], us: &[u8], b: &[u8]) -> bool
+fn used_fields(old: bool, d: &[u8], us: &[u8], b: &[u8]) -> bool
     requires { ⌜ (nOf (now d) ≤ 100) ⌝ }
-    ensures { λ r. ⌜ r ≡ usedFields (now (d .entry)) (cut 512 (now (us .entry))) (now (b .entry)) ⌝ }
+    ensures { λ r. ⌜ r ≡ usedFields (allowedIn old) (now (d .entry)) (cut 512 (now (us .entry))) (now (b .entry)) ⌝ }
 {
     if is_sender(b) {
         return sender_fields(d, b) & sender_day(d, b);
     }
-    is_series(b) & series_sound(d, us, b)
+    is_series(b) & series_sound(d, us, b) & differing_allowed(old, n_of(d), differing(b))
 }
 
-fn all_fields(d: &[u8], us: &[u8]) -> bool
+fn all_fields(old: bool, d: &[u8], us: &[u8]) -> bool
     requires { ⌜ (nOf (now d) ≤ 100) ⌝ }
-    ensures { λ r. ⌜ r ≡ every (usedFields (now (d .entry)) (cut 512 (now (us .entry)))) (cut 512 (now (us .entry))) ⌝ }
+    ensures { λ r. ⌜ r ≡ every (usedFields (allowedIn old) (now (d .entry)) (cut 512 (now (us .entry)))) (cut 512 (now (us .entry))) ⌝ }
 {
     let blocks = us.len() / 512;
     let mut ok = true;
     let mut i = 0;
     while i < blocks {
-        ok = ok & used_fields(d, us, block_at(us, i));
+        ok = ok & used_fields(old, d, us, block_at(us, i));
         i += 1;
     }
     ok
@@ -74,20 +80,20 @@ fn linked_sound(us: &[u8]) -> bool
     counts_right(us, &heads, &nexts)
 }
 
-fn each_used(d: &[u8], us: &[u8]) -> bool
+fn each_used(old: bool, d: &[u8], us: &[u8]) -> bool
     requires { ⌜ (nOf (now d) ≤ 100) × (length (now us) / 512 ≤ 1000) ⌝ }
-    ensures { λ r. ⌜ r ≡ eachUsed (now (d .entry)) (cut 512 (now (us .entry))) ⌝ }
+    ensures { λ r. ⌜ r ≡ eachUsed (allowedIn old) (now (d .entry)) (cut 512 (now (us .entry))) ⌝ }
 {
-    if !all_fields(d, us) {
+    if !all_fields(old, d, us) {
         return false;
     }
     linked_sound(us)
 }
 
 // The day block and the used slots behind it.
-fn filled_sound(filled: &[u8]) -> bool
+fn filled_sound(old: bool, filled: &[u8]) -> bool
     requires { ⌜ (512 ≤ length (now filled)) × (length (now filled) / 512 ≤ 1001) ⌝ }
-    ensures { λ r. ⌜ r ≡ filledSound (now (filled .entry)) ⌝ }
+    ensures { λ r. ⌜ r ≡ filledSound (allowedIn old) (now (filled .entry)) ⌝ }
 {
     if !checks_right(filled) {
         return false;
@@ -96,12 +102,12 @@ fn filled_sound(filled: &[u8]) -> bool
     if !day_sound(d) {
         return false;
     }
-    each_used(d, &filled[512..])
+    each_used(old, d, &filled[512..])
 }
 
 // "Used slots first, free ones after": behind the used slots all bytes are 0, and the check of a free slot is right.
-pub fn sound(book: &[u8]) -> bool
-    ensures { λ r. ⌜ r ≡ sound (now (book .entry)) ⌝ }
+fn sound_over(old: bool, book: &[u8]) -> bool
+    ensures { λ r. ⌜ r ≡ soundOver (allowedIn old) (now (book .entry)) ⌝ }
 {
     if !whole_blocks(2, 1001, book) {
         return false;
@@ -110,5 +116,17 @@ pub fn sound(book: &[u8]) -> bool
     if !all_zero(&book[end..]) {
         return false;
     }
-    filled_sound(&book[..end])
+    filled_sound(old, &book[..end])
+}
+
+pub fn sound(book: &[u8]) -> bool
+    ensures { λ r. ⌜ r ≡ sound (now (book .entry)) ⌝ }
+{
+    sound_over(false, book)
+}
+
+pub fn old_sound(book: &[u8]) -> bool
+    ensures { λ r. ⌜ r ≡ oldSound (now (book .entry)) ⌝ }
+{
+    sound_over(true, book)
 }

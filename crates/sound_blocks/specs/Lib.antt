@@ -1,2 +1,3 @@
 -- What the code hands down inside the call.
 pub mod Entries
+pub mod Layouts

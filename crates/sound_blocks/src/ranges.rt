@@ -1,6 +1,7 @@
 // The ranges of the fields.
 ghost use mathlib.Core.Path.{_≡_};
 ghost use Rattle.paper.specs.Ranges.{wholeBlocks, nAllowed, leadAllowed, clockAllowed, versionAllowed, countAllowed, quantityAllowed, netAllowed};
+ghost use Rattle.sound_blocks.specs.Layouts.{allowedIn};
 use paper::Minute;
 
 pub fn whole_blocks(least: usize, most: usize, b: &[u8]) -> bool
@@ -51,4 +52,14 @@ pub fn net_allowed(net: u32) -> bool
     ensures { λ r. ⌜ r ≡ netAllowed net ⌝ }
 {
     (net <= 1999999800) | (2294967496 <= net)
+}
+
+// Byte 104 of a series: at how many positions its counterpart differs, or in the old layout the state.
+pub fn differing_allowed(old: bool, n: u8, differing: u8) -> bool
+    ensures { λ r. ⌜ r ≡ allowedIn old n differing ⌝ }
+{
+    if old {
+        return (1 <= differing) & (differing <= 3);
+    }
+    differing <= n
 }

@@ -26,7 +26,6 @@ use layout::pair;
 use layout::partner;
 use layout::sender;
 use layout::senders_slot;
-use layout::state;
 use layout::version;
 use slots::is_sender;
 use slots::is_series;
@@ -80,7 +79,7 @@ fn series_values(d: &[u8], x: &[u8]) -> bool
     ensures { λ r. ⌜ r ≡ seriesValues (now (d .entry)) (now (x .entry)) ⌝ }
 {
     let n = n_of(d) as usize;
-    (1 <= state(x)) & (state(x) <= 3) & (first(x).0 <= n) & quantities_allowed(n, x)
+    (first(x).0 <= n) & quantities_allowed(n, x)
 }
 
 pub fn series_sound(d: &[u8], us: &[u8], x: &[u8]) -> bool

@@ -45,7 +45,7 @@ hexLine s = hexText s ++ 10 ∷ []
 
 -- ---- by the record's tag
 
--- rows from tag 0, which is none
+-- rows from tag 0, which is none, as is 24
 unfoldable pub words : Bytes
 words =
     lines
@@ -73,6 +73,8 @@ words =
     ∷ text "seal"
     ∷ text "code"
     ∷ text "judge"
+    ∷ text ""
+    ∷ text "convert"
     ∷ [])
 
 unfoldable pub wordOf : ℕ → Bytes

@@ -1,7 +1,6 @@
 // Records from standard input. Nothing is read behind a record, and a body only once its length is known to be lawful.
 ghost use mathlib.Core.Path.{_≡_};
-ghost use Prim.Native.Nat.{_<_};
-ghost use Rattle.stream.specs.Records.{lawful};
+ghost use Rattle.stream.specs.Records.{sizesOf, known, lawful};
 use block::numbers::number_4;
 use field::within;
 use libc::STDIN_FILENO;
@@ -12,73 +11,65 @@ pub enum Head {
     Malformed,
 }
 
-// The fewest and the most bytes of a body, tag by tag from 0, which is none. The table's columns "shortest" and "longest body".
-fn lawful(tag: u8, n: usize) -> bool
-    requires { ⌜ tag < 24 ⌝ }
-    ensures { λ r. ⌜ r ≡ lawful tag n ⌝ }
+// The fewest and the most bytes of a body: the table's columns "shortest" and "longest body".
+pub struct Sizes(pub usize, pub usize);
+
+// A row for each tag from 0. No body is long enough for a tag that is none.
+fn sizes_of(tag: u8) -> Sizes
+    ensures { λ r. ⌜ r ≡ sizesOf tag ⌝ }
 {
-    let fewest: [usize; 24] = [
-        1,
-        4,
-        4,
-        0,
-        0,
-        6,
-        2,
-        0,
-        2,
-        2,
-        4,
-        0,
-        2,
-        0,
-        0,
-        0,
-        0,
-        0,
-        0,
-        4,
-        512,
-        512,
-        1,
-        0,
-    ];
-    let most: [usize; 24] = [
-        0,
-        4,
-        512516,
-        0,
-        0,
-        198,
-        2,
-        131072,
-        130,
-        130,
-        132,
-        0,
-        131074,
-        131072,
-        0,
-        0,
-        64,
-        64,
-        64,
-        68,
-        512,
-        512,
-        1,
-        131072,
+    let rows = [
+        Sizes(1, 0),
+        Sizes(4, 4), // length
+        Sizes(4, 512516), // bytes
+        Sizes(0, 0), // book
+        Sizes(0, 0), // sum
+        Sizes(6, 198), // open
+        Sizes(2, 2), // clock
+        Sizes(0, 131072), // submit
+        Sizes(2, 130), // mark
+        Sizes(2, 130), // block
+        Sizes(4, 132), // final
+        Sizes(0, 0), // plain
+        Sizes(2, 131074), // reader
+        Sizes(0, 131072), // walk
+        Sizes(0, 0), // listing
+        Sizes(0, 0), // sound
+        Sizes(0, 64), // eic
+        Sizes(0, 64), // id
+        Sizes(0, 64), // read
+        Sizes(4, 68), // print
+        Sizes(512, 512), // check
+        Sizes(512, 512), // seal
+        Sizes(1, 1), // code
+        Sizes(0, 131072), // judge
+        Sizes(1, 0),
+        Sizes(0, 0), // convert
     ];
     let k = tag as usize;
-    (fewest[k] <= n) & (n <= most[k])
+    if rows.len() <= k {
+        return Sizes(1, 0);
+    }
+    rows[k]
+}
+
+fn known(tag: u8) -> bool
+    ensures { λ r. ⌜ r ≡ known tag ⌝ }
+{
+    let s = sizes_of(tag);
+    s.0 <= s.1
+}
+
+fn lawful(tag: u8, n: usize) -> bool
+    ensures { λ r. ⌜ r ≡ lawful tag n ⌝ }
+{
+    let s = sizes_of(tag);
+    (s.0 <= n) & (n <= s.1)
 }
 
 // An unknown tag is found before a length is read.
 fn after_tag(tag: u8) -> Head {
-    if tag == 0 {
-        return Head::Malformed;
-    }
-    if 23 < tag {
+    if !known(tag) {
         return Head::Malformed;
     }
     let mut length = [0u8; 4];

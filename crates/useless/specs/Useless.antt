@@ -1,27 +1,25 @@
--- Each useless version of the desk contradicts a promise: one book and one message show it, by computation.
-use Rattle.laws.specs.Base.{_≡_, refl, sym, ap, _∙_, Bool, true, false, cond, Option, none, some, Option·map, List, [], _∷_, _++_, map, ℕ, _+_, _*_, arith, length, take, drop, getD, replicate}
-use Rattle.laws.specs.Tests.{is}
+-- Each useless version of the desk contradicts a promise: one book and one message or two show it, by computation.
+use Rattle.laws.specs.Base.{_≡_, refl, sym, ap, _∙_, true, Option, none, some, Option·map, List, [], _∷_, _++_, map, ℕ, _+_, _*_, arith, length, take, drop, getD, replicate}
 use Rattle.laws.specs.Tests.Laws.{is-equal}
 use Rattle.laws.specs.Lists.{find, nth}
 use Rattle.laws.specs.Bytes.Laws.{number-1}
 use Rattle.laws.specs.Cut.{join}
 use Rattle.paper.specs.declared.Verdict.{Verdict}
 use Rattle.paper.specs.Check.{sealed}
-use Rattle.paper.specs.Layout.{Bytes, Block, kind, nOf, sender, nets, sendersSlot, pair, mark, state, partner, entry, withSendersSlot}
+use Rattle.paper.specs.Layout.{Bytes, Block, kind, nOf, sender, nets, sendersSlot, pair, mark, differing, partner, entry, withSendersSlot}
 use Rattle.paper.specs.Book.{dayBlock, used, isSeries, isSenderBlockOf, slotOf}
 use Rattle.paper.specs.Message.{headOf, seriesOf}
 use Rattle.paper.specs.Rules.{numberOf, verdict}
-use Rattle.paper.specs.Marks.{firstDifference, markOf}
 use Rattle.paper.specs.Acceptance.{slotFor, usedAfter, submitted}
 use Rattle.paper.specs.Opening.{Opening, openNumber, opened}
 use Rattle.paper.specs.PlainRule.{orElse, latest, plainMark, plainNets}
-use Rattle.paper.specs.Calls.{submission, step, run}
-use Rattle.facts.specs.Layout.{mark-state}
+use Rattle.paper.specs.Calls.{opening, submission, step, run}
+use Rattle.facts.specs.Layout.{mark-differing}
 use Rattle.facts.specs.Book.{kind-series}
 use Rattle.promises.specs.Promises.{nets-are-the-plain-rules, marks-are-the-plain-rules}
-use Rattle.cases.specs.Opened.{paper}
+use Rattle.cases.specs.Opened.{paper, demand3}
 use Rattle.cases.specs.Case.{once}
-use Rattle.cases.specs.Examples.{seller, head, sale, buyback, steady, parameters, bookOf, examples}
+use Rattle.cases.specs.Examples.{seller, buyer, head, sale, buyback, steady, parameters, bookOf, examples}
 
 -- ---- versions of submission: its answer, and the book after it
 
@@ -33,10 +31,10 @@ pub record Version : Type 0 where
 abbrev pub Promised : Version → Type 0
 Promised v = (book message : Bytes) → (v .answer book message ≡ verdict book message) × (v .book-after book message ≡ submitted book message)
 
--- ---- a book of three slots, just opened, and a message with two series that it accepts
+-- ---- a book of five slots, just opened, and a message with two series that it accepts
 
 unfoldable book : Bytes
-book = bookOf 3
+book = bookOf 5
 
 unfoldable message : Bytes
 message = head seller 1 2 ++ sale 1 (steady 45000) ++ buyback 1 (steady 1000)
@@ -48,10 +46,10 @@ once-is f (x ∷ l) = refl
 twice-is : {A : Type 0} (f : Bytes → Bytes → A) (b m : Bytes) → once (λ x. once (f x) m) b ≡ f b m
 twice-is f b m = once-is (λ x. once (f x) m) b ∙ once-is (f b) m
 
-abbrev computed : {A : Type 0} → (Bytes → Bytes → A) → A
-computed f = once (λ b. once (f b) message) book
+abbrev computed : {A : Type 0} → (Bytes → Bytes → A) → Bytes → Bytes → A
+computed f b m = once (λ x. once (f x) m) b
 
-answered-0 : computed (λ b m. numberOf (verdict b m)) ≡ 0
+answered-0 : computed (λ b m. numberOf (verdict b m)) book message ≡ 0
 unfolding paper examples book message
 answered-0 = refl
 
@@ -80,7 +78,7 @@ book-empty : once (λ b. length (used b)) book ≡ 0
 unfolding paper examples book
 book-empty = refl
 
-book-filled : computed (λ b m. length (used (submitted b m))) ≡ 3
+book-filled : computed (λ b m. length (used (submitted b m))) book message ≡ 3
 unfolding paper examples book message
 book-filled = refl
 
@@ -102,14 +100,14 @@ firstOnly book message =
     dayBlock book ++ join after ++ drop (512 + 512 * length after) book
 
 -- the opening, and the book that it spoils
-parameters-allowed : once (λ b. openNumber b (parameters 45)) (replicate 2048 7) ≡ 0
+parameters-allowed : once (λ b. openNumber b (parameters 45)) (replicate 3072 7) ≡ 0
 unfolding paper examples
 parameters-allowed = refl
 
-opening-allowed : openNumber (replicate 2048 7) (parameters 45) ≡ 0
-opening-allowed = sym (once-is (λ b. openNumber b (parameters 45)) (replicate 2048 7)) ∙ parameters-allowed
+opening-allowed : openNumber (replicate 3072 7) (parameters 45) ≡ 0
+opening-allowed = sym (once-is (λ b. openNumber b (parameters 45)) (replicate 3072 7)) ∙ parameters-allowed
 
-book-opened : book ≡ opened (replicate 2048 7) (parameters 45)
+book-opened : book ≡ opened (replicate 3072 7) (parameters 45)
 unfolding book bookOf
 book-opened = refl
 
@@ -121,7 +119,7 @@ NetsPlain after = (buffer : Bytes) (o : Opening) (m : Bytes) → openNumber buff
 -- the desk does
 pub desk-nets-plain : NetsPlain submitted
 unfolding run step
-desk-nets-plain buffer o m h q e = rw (is-equal _ _ q) at (nets-are-the-plain-rules buffer o h (submission m ∷ []) e)
+desk-nets-plain buffer o m h q e = rw (is-equal _ _ h, is-equal _ _ q) at (nets-are-the-plain-rules buffer (opening o) h (submission m ∷ []) e)
 
 -- at position 1 the seller's net is the 1,000 that it buys less the 45,000 that it sells
 net-plain : once (λ m. Option·map (λ v. entry v 0) (plainNets (m ∷ []) seller)) message ≡ some 4294923296
@@ -129,15 +127,15 @@ unfolding paper examples message plainNets latest orElse
 net-plain = refl
 
 -- the 45,000 alone
-net-first-only : computed (λ b m. Option·map (λ v. entry v 0) (Option·map nets (find (isSenderBlockOf seller) (used (firstOnly b m))))) ≡ some 4294922296
+net-first-only : computed (λ b m. Option·map (λ v. entry v 0) (Option·map nets (find (isSenderBlockOf seller) (used (firstOnly b m))))) book message ≡ some 4294922296
 unfolding paper examples book message firstOnly
 net-first-only = refl
 
 pub first-series-only-nets : NetsPlain firstOnly → ⊥
 first-series-only-nets p =
-    let a : numberOf (verdict (opened (replicate 2048 7) (parameters 45)) message) ≡ 0 = rw book-opened at answer-0 in
+    let a : numberOf (verdict (opened (replicate 3072 7) (parameters 45)) message) ≡ 0 = rw book-opened at answer-0 in
     let q : Option·map nets (find (isSenderBlockOf seller) (used (firstOnly book message))) ≡ plainNets (message ∷ []) seller = rw book-opened
-    (p (replicate 2048 7) (parameters 45) message opening-allowed a seller) in
+    (p (replicate 3072 7) (parameters 45) message opening-allowed a seller) in
     let r : _≡_ {A = Option ℕ} (some 4294922296) (some 4294923296) =
     sym net-first-only ∙ twice-is (λ b m. Option·map (λ v. entry v 0) (Option·map nets (find (isSenderBlockOf seller) (used (firstOnly b m))))) book message ∙ ap
     (Option·map (λ v. entry v 0)) q
@@ -145,59 +143,88 @@ first-series-only-nets p =
     let z : _≡_ {A = ℕ} 4294922296 4294923296 = cc in
     omega arith
 
--- and so are the marks
+-- and so are the marks, after an opening and two accepted messages: a series copied as it came has the mark of one that stands alone, so it takes a counterpart that
+-- differs to show it
 abbrev pub MarksPlain : (Bytes → Bytes → Bytes) → Type 0
-MarksPlain after = (buffer : Bytes) (o : Opening) (m : Bytes) → openNumber buffer o ≡ 0 → numberOf (verdict (opened buffer o) m) ≡ 0
-    → (slot : ℕ) (x : Block) → nth (used (after (opened buffer o) m)) slot ≡ some x → isSeries x ≡ true → (e : Bytes) → slotOf
-    (used (after (opened buffer o) m)) e ≡ sendersSlot x
-    → mark x ≡ plainMark (m ∷ []) e (pair x) (partner x)
+MarksPlain after = (buffer : Bytes) (o : Opening) (m k : Bytes) → openNumber buffer o ≡ 0 → numberOf (verdict (opened buffer o) m) ≡ 0
+    → numberOf (verdict (after (opened buffer o) m) k) ≡ 0
+    → (slot : ℕ) (x : Block) → nth (used (after (after (opened buffer o) m) k)) slot ≡ some x → isSeries x ≡ true
+    → (e : Bytes) → slotOf (used (after (after (opened buffer o) m) k)) e ≡ sendersSlot x → mark x ≡ plainMark (m ∷ k ∷ []) e (pair x) (partner x)
 
 pub desk-marks-plain : MarksPlain submitted
 unfolding run step
-desk-marks-plain buffer o m h q slot x there s e i =
-    rw (is-equal _ _ q) at (marks-are-the-plain-rules buffer o h (submission m ∷ []) slot x there s e i)
+desk-marks-plain buffer o m k h q r slot x there s e i =
+    rw (is-equal _ _ h, is-equal _ _ q, is-equal _ _ r) at (marks-are-the-plain-rules buffer (opening o) h (submission m ∷ submission k ∷ []) slot x there s e i)
 
--- slot 3 has a series of the seller in slot 1, with no mark
-series-copied : computed (λ b m. Option·map (λ x. kind x ∷ sendersSlot x ∷ state x ∷ []) (nth (used (firstOnly b m)) 3)) ≡ some (2 ∷ 1 ∷ 0 ∷ [])
-unfolding paper examples book message firstOnly nth
+-- the buyer has filed 900 for what it sells; the message has 1,000 for it, in its second series
+unfoldable offer : Bytes
+offer = head buyer 1 1 ++ buyback 1 (steady 900)
+
+unfoldable filed : Bytes
+filed = computed firstOnly book offer
+
+unfoldable spoilt : Bytes
+spoilt = computed firstOnly filed message
+
+offered-0 : computed (λ b m. numberOf (verdict b m)) book offer ≡ 0
+unfolding paper examples book offer
+offered-0 = refl
+
+filed-0 : computed (λ b m. numberOf (verdict b m)) filed message ≡ 0
+unfolding paper examples book offer message filed firstOnly
+filed-0 = refl
+
+-- slot 5 then has that series of the seller in slot 3, with no mark
+series-copied : once (λ b. Option·map (λ x. kind x ∷ sendersSlot x ∷ differing x ∷ pair x) (nth (used b) 5)) spoilt ≡ some (2 ∷ 3 ∷ 0 ∷ seller ++ buyer)
+unfolding paper examples book offer message filed spoilt firstOnly nth
 series-copied = refl
 
-sellers-slot : computed (λ b m. slotOf (used (firstOnly b m)) seller) ≡ 1
-unfolding paper examples book message firstOnly
+sellers-slot : once (λ b. slotOf (used b) seller) spoilt ≡ 3
+unfolding paper examples book offer message filed spoilt firstOnly
 sellers-slot = refl
 
--- a mark has a state
-mark-of-state : (n : ℕ) (a : Bytes) (o : Option Bytes) (slot : ℕ) → getD (markOf n a o slot) 0 0 ≡ 0 → ⊥
-unfolding markOf
-mark-of-state n a none slot e = omega arith
-mark-of-state n a (some b) slot e = by (is (firstDifference n a b) 0) e
-  where
-    by : (t : Bool) → _≡_ {A = ℕ} (cond t 2 3) 0 → ⊥
-    by true q = omega arith
-    by false q = omega arith
+-- by the plain rule all 96 positions differ
+count-plain : (slot : ℕ) → computed (λ m k. getD (plainMark (m ∷ k ∷ []) seller (seller ++ buyer) slot) 0 0) offer message ≡ 96
+unfolding paper demand3 examples offer message
+count-plain slot = refl
 
-plain-mark-state : (ms : List Bytes) (e p : Bytes) (slot : ℕ) (x : Block) → mark x ≡ plainMark ms e p slot → state x ≡ 0 → ⊥
-unfolding plainMark
-plain-mark-state ms e p slot x m s = mark-of-state _ _ _ slot (sym (mark-state x ∙ number-1 0 (mark x) ∙ ap (λ w. getD w 0 0) m) ∙ s)
+-- and a mark's first byte is the count
+count-of : (x : Block) (m : Bytes) → mark x ≡ m → differing x ≡ getD m 0 0
+count-of x m e = mark-differing x ∙ number-1 0 (mark x) ∙ ap (λ w. getD w 0 0) e
+
+filed-is : filed ≡ firstOnly (opened (replicate 3072 7) (parameters 45)) offer
+unfolding filed
+filed-is = twice-is firstOnly book offer ∙ ap (λ b. firstOnly b offer) book-opened
+
+spoilt-is : spoilt ≡ firstOnly (firstOnly (opened (replicate 3072 7) (parameters 45)) offer) message
+unfolding spoilt
+spoilt-is = twice-is firstOnly filed message ∙ ap (λ b. firstOnly b message) filed-is
 
 pub first-series-only-marks : MarksPlain firstOnly → ⊥
-first-series-only-marks p = by (nth (used (firstOnly book message)) 3) refl
+first-series-only-marks p = by (nth (used spoilt) 5) refl
   where
-    seen : Option·map (λ x. kind x ∷ sendersSlot x ∷ state x ∷ []) (nth (used (firstOnly book message)) 3) ≡ some (2 ∷ 1 ∷ 0 ∷ [])
-    seen = sym (twice-is (λ b m. Option·map (λ x. kind x ∷ sendersSlot x ∷ state x ∷ []) (nth (used (firstOnly b m)) 3)) book message) ∙ series-copied
+    seen : Option·map (λ x. kind x ∷ sendersSlot x ∷ differing x ∷ pair x) (nth (used spoilt) 5) ≡ some (2 ∷ 3 ∷ 0 ∷ seller ++ buyer)
+    seen = sym (once-is (λ b. Option·map (λ x. kind x ∷ sendersSlot x ∷ differing x ∷ pair x) (nth (used b) 5)) spoilt) ∙ series-copied
 
-    in-slot : slotOf (used (firstOnly book message)) seller ≡ 1
-    in-slot = sym (twice-is (λ b m. slotOf (used (firstOnly b m)) seller) book message) ∙ sellers-slot
+    in-slot : slotOf (used spoilt) seller ≡ 3
+    in-slot = sym (once-is (λ b. slotOf (used b) seller) spoilt) ∙ sellers-slot
 
-    by : (o : Option Block) → nth (used (firstOnly book message)) 3 ≡ o → ⊥
-    by none f = let z : _≡_ {A = Option Bytes} none (some (2 ∷ 1 ∷ 0 ∷ [])) = sym (ap (Option·map (λ x. kind x ∷ sendersSlot x ∷ state x ∷ [])) f)
-        ∙ seen in let w : _≡_ {A = ℕ} 0 1 = cc in omega arith
+    by : (o : Option Block) → nth (used spoilt) 5 ≡ o → ⊥
+    by none f = let z : _≡_ {A = Option Bytes} none (some (2 ∷ 3 ∷ 0 ∷ seller ++ buyer)) = sym
+        (ap (Option·map (λ x. kind x ∷ sendersSlot x ∷ differing x ∷ pair x)) f) ∙ seen in let w : _≡_ {A = ℕ} 0 1 = cc in omega arith
     by (some x) f =
-        let z : _≡_ {A = Option Bytes} (some (kind x ∷ sendersSlot x ∷ state x ∷ [])) (some (2 ∷ 1 ∷ 0 ∷ [])) = sym
-        (ap (Option·map (λ y. kind y ∷ sendersSlot y ∷ state y ∷ [])) f) ∙ seen in
+        let z : _≡_ {A = Option Bytes} (some (kind x ∷ sendersSlot x ∷ differing x ∷ pair x)) (some (2 ∷ 3 ∷ 0 ∷ seller ++ buyer)) = sym
+        (ap (Option·map (λ y. kind y ∷ sendersSlot y ∷ differing y ∷ pair y)) f) ∙ seen in
         let k : kind x ≡ 2 = cc in
-        let i : sendersSlot x ≡ 1 = cc in
-        let s : state x ≡ 0 = cc in
-        let a : numberOf (verdict (opened (replicate 2048 7) (parameters 45)) message) ≡ 0 = rw book-opened at answer-0 in
-        plain-mark-state _ seller (pair x) (partner x) x
-        (p (replicate 2048 7) (parameters 45) message opening-allowed a 3 x (rw book-opened at f) (kind-series x k) seller (rw book-opened at in-slot ∙ sym i)) s
+        let i : sendersSlot x ≡ 3 = cc in
+        let c : differing x ≡ 0 = cc in
+        let q : pair x ≡ seller ++ buyer = cc in
+        let a : numberOf (verdict (opened (replicate 3072 7) (parameters 45)) offer) ≡ 0 = rw book-opened at
+        (sym (twice-is (λ b m. numberOf (verdict b m)) book offer) ∙ offered-0) in
+        let b : numberOf (verdict (firstOnly (opened (replicate 3072 7) (parameters 45)) offer) message) ≡ 0 = rw filed-is at
+        (sym (twice-is (λ b m. numberOf (verdict b m)) filed message) ∙ filed-0) in
+        let m = p (replicate 3072 7) (parameters 45) offer message opening-allowed a b 5 x (rw spoilt-is at f) (kind-series x k) seller
+        (rw spoilt-is at in-slot ∙ sym i) in
+        let w : _≡_ {A = ℕ} 0 96 = sym c ∙ count-of x _ (rw q at m)
+        ∙ sym (twice-is (λ m k. getD (plainMark (m ∷ k ∷ []) seller (seller ++ buyer) (partner x)) 0 0) offer message) ∙ count-plain (partner x) in
+        omega arith

@@ -1,6 +1,6 @@
 -- A mark is worked out from kind, sender's slot, pair and quantities of the blocks, and a mark that is put right changes none of these: so a list
 -- of which some blocks are marked anew gives the same marks, and its links are the same.
-use Rattle.laws.specs.Kit.{_≡_, refl, sym, ap, _∙_, Bool, true, false, Option, none, some, Option·map, List, [], _∷_, map, ℕ, zero, suc, _+_, _<_, arith, length, drop, getD, set, length-map, List·getD-map, set-getD, _and_, _or_, neg, is, split, is-no, placeFrom}
+use Rattle.laws.specs.Kit.{_≡_, refl, sym, ap, _∙_, Bool, true, false, Option, none, some, Option·map, List, [], map, ℕ, _<_, length, getD, set, set-getD, _and_, _or_, neg, is, split, is-no}
 use Rattle.laws.specs.Lists.{same, find, place, has}
 use Rattle.laws.specs.Lists.Search.{has-map, find-map, place-map}
 use Rattle.laws.specs.InPlace.{done, done-seen, done-next}
@@ -9,7 +9,8 @@ use Rattle.paper.specs.Book.{isSeries, pairIs, isSeriesOfPair}
 use Rattle.paper.specs.Marks.{isCounterpart, counterpart, counterpartSlot, markIn}
 use Rattle.paper.specs.Acceptance.{touched, remarked}
 use Rattle.facts.specs.Remarking.{kind-remarked, senders-slot-remarked, pair-remarked, quantities-remarked}
-use Rattle.index.specs.Linked.{bucket, seriesIn, Heads, Nexts, Links}
+use Rattle.index.specs.Linked.{bucket, seriesIn, Links}
+use Rattle.index.specs.Linked.Laws.{links-viewed}
 use Rattle.accept.specs.Steps.{touchedBy, Other, Others}
 
 -- ---- what a mark is worked out from
@@ -90,41 +91,9 @@ module _ (n slot : ℕ) where
 seriesInView : ℕ → View → Bool
 seriesInView g v = is (v .kind) 2 and is (bucket (v .pair)) g
 
-place-from-view : (g t : ℕ) (l : List Block) → placeFrom t (seriesIn g) l ≡ placeFrom t (seriesInView g) (map view l)
-unfolding placeFrom seriesIn seriesInView view isSeries
-place-from-view g t [] = refl
-place-from-view g t (x ∷ xs) = rw (place-from-view g (t + 1) xs)
-
-drop-view : (i : ℕ) (l : List Block) → map view (drop i l) ≡ drop i (map view l)
-drop-view zero l = refl
-drop-view (suc i) [] = refl
-drop-view (suc i) (x ∷ xs) = drop-view i xs
-
 series-view : (g : ℕ) (x : Block) → seriesIn g x ≡ seriesInView g (view x)
 unfolding seriesIn seriesInView view isSeries
 series-view g x = refl
-
-module _ (l r : List Block) (e : map view l ≡ map view r) where
-  same-place : (g i : ℕ) → placeFrom i (seriesIn g) (drop i l) ≡ placeFrom i (seriesIn g) (drop i r)
-  same-place g i =
-      place-from-view g i (drop i l) ∙ ap (placeFrom i (seriesInView g)) (drop-view i l ∙ ap (drop i) e ∙ sym (drop-view i r))
-      ∙ sym (place-from-view g i (drop i r))
-
-  same-series : (g j : ℕ) → seriesIn g (getD l j []) ≡ seriesIn g (getD r j [])
-  same-series g j =
-      series-view g (getD l j []) ∙ ap (seriesInView g) (sym (List·getD-map view l j []) ∙ ap (λ k. getD k j (view [])) e ∙ List·getD-map view r j [])
-      ∙ sym (series-view g (getD r j []))
-
-  pub same-links : (h n : List ℕ) → Links seriesIn l 0 h n → Links seriesIn r 0 h n
-  unfolding Heads Nexts
-  same-links h n a =
-      let m : length l ≡ length r = sym (length-map l view) ∙ ap length e ∙ length-map r view in
-      record {
-        begin = λ g c. a .begin g c ∙ same-place g 0;
-        go-on = λ j c d g q. a .go-on j c (omega arith) g (same-series g j ∙ q) ∙ same-place g (j + 1);
-        buckets = a .buckets;
-        nexts-length = a .nexts-length;
-      }
 
 -- block i of a, the list l of which the first i are marked anew
 module _ (n slot : ℕ) (l a : List Block) (i : ℕ) (e : a ≡ done (remarked n slot) l i) where
@@ -132,7 +101,7 @@ module _ (n slot : ℕ) (l a : List Block) (i : ℕ) (e : a ≡ done (remarked n
   seen = sym (ap (map view) e ∙ done-seen view (remarked n slot) (remarked-keeps n slot) (remarked-reads n slot) l i)
 
   pub links-kept : (h n : List ℕ) → Links seriesIn l 0 h n → Links seriesIn a 0 h n
-  links-kept h n f = same-links l a seen h n f
+  links-kept h n f = links-viewed view seriesIn seriesInView series-view l a seen h n f
 
   pub other-kept : (numbers : List ℕ) → Others slot l numbers → i < length l → {k : ℕ} → k ≡ getD numbers i 0 → Other slot a k (getD a i [])
   unfolding Others Other

@@ -11,7 +11,7 @@ use Rattle.paper.specs.Acceptance.{renewed, remarked, usedAfter}
 use Rattle.index.specs.Handed.{Handed}
 use Rattle.accept.specs.Fits.{Placing}
 use Rattle.accept.specs.Steps.{Laid, senderIfNew, addedTo, Numbers, Others}
-use Rattle.accept.proofs.Laws.Lent.{cut-first, cut-lent-first}
+use Rattle.slots.proofs.Laws.Lent.{cut-first, cut-lent-first}
 use Rattle.accept.proofs.Laws.Phases.{room, used-numbers, placed-others, three}
 
 -- ---- the phases over bytes: b are the slots, d the message's series

@@ -9,8 +9,10 @@ use Rattle.desk_lines.proofs.put_series.Tie as tie
 returns : tie.Need-returns
 unfolding seriesText text
 returns c =
-    then (then (c .before .before .before .before .before .before .before .before .before .before .before .before .before .before .before .put-name .ensures) (c .before .before .before .before .before .before .before .before .before .before .put .ensures))
-    (rw (← c .before .before .before .before .before .first .ensures, ← c .before .before .before .before .partner .ensures, ← c .before .before .before .before .before .before .before .state .ensures, ← c .before .before .before .state-code .ensures) (c .before .before .put-mark .ensures))
+    let mark = c .before .before in
+    let space = mark .before .before .before .before .before .before .before in
+    then (then (space .before .before .before .before .before .put-name .ensures) (space .put .ensures))
+    (rw (← mark .before .before .before .differing .ensures, ← mark .before .before .first .ensures, ← mark .before .partner .ensures) (mark .put-mark .ensures))
 
 pub put-series-spec : {M : Type 1} → statement M
-put-series-spec = tie.close (tie.spec (λ c κs. tt) (λ c. refl) (λ c κs. tt) (λ c κs. tt) (λ c κs. tt) (λ c κs. tt) (λ c κs. tt) (λ c κs. tt) (λ c. omega arith) returns)
+put-series-spec = tie.close (tie.spec (λ c κs. tt) (λ c. refl) (λ c κs. tt) (λ c κs. tt) (λ c κs. tt) (λ c κs. tt) (λ c κs. tt) (λ c. omega arith) returns)

@@ -8,22 +8,32 @@ use Rattle.paper.specs.declared.PlainRunAnswer.{PlainRunAnswer}
 use Rattle.paper.specs.declared.OpenAnswer.{OpenAnswer}
 use Rattle.paper.specs.declared.Verdict.{Verdict}
 use Rattle.paper.specs.Layout.{Bytes}
+use Rattle.paper.specs.Book.{used}
 use Rattle.paper.specs.Rules.{verdict}
 use Rattle.paper.specs.Acceptance.{submitted}
 use Rattle.paper.specs.Opening.{Opening, openNumber, openAnswer, opened}
 use Rattle.paper.specs.Clock.{clockMoved}
+use Rattle.paper.specs.Conversion.{conversionNumber, converted, keptMessages}
 use Rattle.paper.specs.Finals.{final}
 use Rattle.paper.specs.PlainRun.{plainRun}
 use Rattle.paper.specs.Readings.{markAnswer, acceptedBlock}
-use Rattle.promises.specs.Laws.Invariant.{Invariant}
+use Rattle.promises.specs.Laws.Invariant.{Invariant, content-plain}
 use Rattle.promises.specs.Laws.PlainMarks.{says-yes}
 use Rattle.promises.specs.Promises.{refused-opening-changes-nothing}
-use Rattle.promises.specs.Kept.{opening-begins, clock-keeps, submission-keeps, sound-book, mark-as-ruled, partner-as-ruled, accepted-block-as-sent, no-accepted-block, final-as-sent, final-later}
+use Rattle.promises.specs.Kept.{opening-begins, conversion-begins, conversion-leaves, clock-keeps, submission-keeps, sound-book, mark-as-ruled, partner-as-ruled, accepted-block-as-sent, no-accepted-block, final-as-sent, final-later, final-after-conversion}
 use Rattle.promises.specs.Words.{messagesAfter, Later}
-use Rattle.export.specs.Demand3.{Demand3, FinalsStay, OpeningKeeps, ClockKeeps, SubmissionKeeps, MarkByMessages, BlockByMessages, FinalByMessages, PlainRunSaysYes}
+use Rattle.export.specs.Demand3.{Partner, Demand3, FinalsStay, OpeningKeeps, ConversionKeeps, ClockKeeps, SubmissionKeeps, MarkByMessages, BlockByMessages, FinalByMessages, PlainRunSaysYes}
 
 demand3 : (book : Bytes) (messages : List Bytes) → Invariant book messages → Demand3 book messages
-demand3 book messages v = record { marks = mark-as-ruled book messages v; senders-nets = v .plain; invariant = v }
+unfolding Partner
+demand3 book messages v =
+    record {
+      series = content-plain book messages v;
+      marks = mark-as-ruled book messages v;
+      partners = partner-as-ruled book messages v;
+      senders-nets = v .plain;
+      invariant = v;
+    }
 
 -- what the definitions keep, of the book that the call gave and of the messages as its answer counts them
 kept : (before : Bytes) {after given : Bytes} {messages counted : List Bytes} → given ≡ after → messages ≡ counted → Invariant after messages × Later before after
@@ -39,6 +49,14 @@ opening-kept b o {r} e =
       λ n. e .1 ∙ refused-opening-changes-nothing b o (λ z. n (q ∙ z)),
     )
 
+pub conversion-kept : (b : Bytes) {r : ℕ} {c : Bytes} → (r ≡ conversionNumber b) × (c ≡ converted b) → ConversionKeeps b r c
+unfolding ConversionKeeps FinalsStay
+conversion-kept b e = (
+  λ z. rw (e .1) (demand3 (converted b) (keptMessages (used (converted b))) (conversion-begins b (sym (e .0) ∙ z))),
+  λ n. e .1 ∙ conversion-leaves b (λ z. n (e .0 ∙ z)),
+  rw (e .1) (final-after-conversion b),
+)
+
 pub clock-kept : (b : Bytes) (minute : ℕ) {c : Bytes} → c ≡ clockMoved b minute → ClockKeeps b c
 unfolding ClockKeeps
 clock-kept b minute e messages v = kept b e refl (clock-keeps b messages (v .invariant) minute)
@@ -53,7 +71,7 @@ submission-kept b m e messages v = kept b (e .1) (counted b m messages (e .0)) (
 
 pub mark-by-messages : (b e i : Bytes) {r : MarkAnswer} → r ≡ markAnswer b e i → MarkByMessages b e i r
 unfolding MarkByMessages
-mark-by-messages b e i q messages v = rw q (v .marks e i, partner-as-ruled b messages (v .invariant) e i)
+mark-by-messages b e i q messages v = rw q (v .marks e i, v .partners e i)
 
 -- beside whatever else is said of the part
 pub block-by-messages : (b e i : Bytes) {A : Type 0} {x : Bytes} → A × (x ≡ acceptedBlock b e i) → (A × (x ≡ acceptedBlock b e i)) × BlockByMessages b e i x

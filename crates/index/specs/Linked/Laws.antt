@@ -1,11 +1,11 @@
 -- The links made, from the last block back, and followed: what they leave out is of other buckets.
 use mathlib.Core.Path.{_≡_, refl, sym, ap, _∙_}
 use mathlib.Core.Bool.{Bool, true, false, cond}
-use mathlib.Core.List.{List, []}
+use mathlib.Core.List.{List, [], _∷_, map}
 use Prim.Native.Nat.{ℕ, zero, suc, _+_, _-_, _/_, _≤_, _<_}
 use native.Mathlib.Numerals.{add-one}
 use native.Mathlib.Omega.{arith}
-use lib.ListN.{length, drop, getD, set, length-drop, length-set, drop-of-length-le}
+use lib.ListN.{length, drop, getD, set, List·getD-map, length-drop, length-map, length-set, drop-of-length-le}
 use lib.Seq.{drop-drop, getD-drop, getD-set-same, getD-set-other}
 use Rattle.laws.specs.Tests.{_and_, is, less}
 use Rattle.laws.specs.Tests.Laws.{split, clash, is-yes, is-no, is-equal, less-yes, less-no, and-left, and-right, and-both}
@@ -194,6 +194,39 @@ module _ (p : ℕ → Block → Bool) (l : List Block) where
 
 pub all-linked : (p : ℕ → Block → Bool) (l : List Block) (h n : List ℕ) (i : ℕ) → i ≤ 0 → Links p l i h n → Links p l 0 h n
 all-linked p l h n i z a = let e : i ≡ 0 = omega arith in rw e at a
+
+-- ---- the links of blocks that look alike, where the test of a bucket is told by what view shows of a block
+
+module _ {W : Type 0} (view : Block → W) (p : ℕ → Block → Bool) (q : ℕ → W → Bool) (told : (g : ℕ) (x : Block) → p g x ≡ q g (view x)) where
+  place-viewed : (g t : ℕ) (l : List Block) → placeFrom t (p g) l ≡ placeFrom t (q g) (map view l)
+  unfolding placeFrom
+  place-viewed g t [] = refl
+  place-viewed g t (x ∷ xs) = rw (told g x, place-viewed g (t + 1) xs)
+
+  drop-viewed : (i : ℕ) (l : List Block) → map view (drop i l) ≡ drop i (map view l)
+  drop-viewed zero l = refl
+  drop-viewed (suc i) [] = refl
+  drop-viewed (suc i) (x ∷ xs) = drop-viewed i xs
+
+  module _ (l r : List Block) (e : map view l ≡ map view r) where
+    same-place : (g i : ℕ) → placeFrom i (p g) (drop i l) ≡ placeFrom i (p g) (drop i r)
+    same-place g i =
+        place-viewed g i (drop i l) ∙ ap (placeFrom i (q g)) (drop-viewed i l ∙ ap (drop i) e ∙ sym (drop-viewed i r)) ∙ sym (place-viewed g i (drop i r))
+
+    same-test : (g j : ℕ) → p g (getD l j []) ≡ p g (getD r j [])
+    same-test g j =
+        told g (getD l j []) ∙ ap (q g) (sym (List·getD-map view l j []) ∙ ap (λ k. getD k j (view [])) e ∙ List·getD-map view r j []) ∙ sym (told g (getD r j []))
+
+    pub links-viewed : (h n : List ℕ) → Links p l 0 h n → Links p r 0 h n
+    unfolding Heads Nexts
+    links-viewed h n a =
+        let m : length l ≡ length r = sym (length-map l view) ∙ ap length e ∙ length-map r view in
+        record {
+          begin = λ g c. a .begin g c ∙ same-place g 0;
+          go-on = λ j c d g t. a .go-on j c (omega arith) g (same-test g j ∙ t) ∙ same-place g (j + 1);
+          buckets = a .buckets;
+          nexts-length = a .nexts-length;
+        }
 
 -- ---- the two kinds of links
 

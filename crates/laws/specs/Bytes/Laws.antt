@@ -80,6 +80,34 @@ written-last o (a ∷ v) x b =
     let n : o + suc (length v) ≡ suc o + length v = omega arith in
     rw (n, ← set-comm b o (suc o + length v) a x (λ e. omega arith)) (written-last (suc o) v x (set b o a))
 
+-- ---- written over what was written: elsewhere, in any order; in the same place, the last one stays
+
+set-set : (b : List ℕ) (i x y : ℕ) → set (set b i x) i y ≡ set b i y
+set-set [] i x y = refl
+set-set (z ∷ b) zero x y = refl
+set-set (z ∷ b) (suc i) x y = ap (λ w. z ∷ w) (set-set b i x y)
+
+set-written : (o x p : ℕ) (v b : List ℕ) → o < p → set (written p v b) o x ≡ written p v (set b o x)
+set-written o x p [] b h = ap (λ w. set w o x) (written-none p b) ∙ sym (written-none p (set b o x))
+set-written o x p (y ∷ v) b h =
+    ap (λ w. set w o x) (written-cons p y v b) ∙ set-written o x (p + 1) v (set b p y) (omega arith)
+    ∙ ap (written (p + 1) v) (sym (set-comm b o p x y (λ e. omega arith))) ∙ sym (written-cons p y v (set b o x))
+
+pub written-elsewhere : (o p : ℕ) (u v b : List ℕ) → o + length u ≤ p → written o u (written p v b) ≡ written p v (written o u b)
+written-elsewhere o p [] v b h = written-none o (written p v b) ∙ ap (written p v) (sym (written-none o b))
+written-elsewhere o p (x ∷ u) v b h =
+    written-cons o x u (written p v b) ∙ ap (written (o + 1) u) (set-written o x p v b (omega arith))
+    ∙ written-elsewhere (o + 1) p u v (set b o x) (omega arith) ∙ ap (written p v) (sym (written-cons o x u b))
+
+pub written-again : (o : ℕ) (u v b : List ℕ) → length u ≡ length v → written o u (written o v b) ≡ written o u b
+written-again o [] [] b e = written-none o (written o [] b) ∙ written-none o b ∙ sym (written-none o b)
+written-again o [] (y ∷ v) b e = absurd (omega arith)
+written-again o (x ∷ u) [] b e = absurd (omega arith)
+written-again o (x ∷ u) (y ∷ v) b e =
+    ap (written o (x ∷ u)) (written-cons o y v b) ∙ written-cons o x u (written (o + 1) v (set b o y))
+    ∙ ap (written (o + 1) u) (set-written o x (o + 1) v (set b o y) (omega arith))
+    ∙ written-again (o + 1) u v (set (set b o y) o x) (omega arith) ∙ ap (written (o + 1) u) (set-set b o y x) ∙ sym (written-cons o x u b)
+
 pub written-length : (o : ℕ) (v b : List ℕ) → length (written o v b) ≡ length b
 unfolding written
 written-length o v b = length-sets b o v

@@ -9,7 +9,7 @@ use Rattle.listing_text.proofs.put_lines.Statement.{statement}
 use Rattle.listing_text.proofs.put_lines.Tie as tie
 
 abbrev Inv-loop : tie.InvT-loop
-Inv-loop us at out₀ many place₀ i₀ out place i = (i ≤ length us / 512) × (place ≤ 46 + 88 * i) × (length out ≡ length out₀) × Appended place (seriesLines (cut 512 us) (i + 1) (drop i (cut 512 us))) out (at + length (seriesLines (cut 512 us) 1 (cut 512 us))) (written at (seriesLines (cut 512 us) 1 (cut 512 us)) out₀)
+Inv-loop us at out₀ many place₀ i₀ out place i = (i ≤ length us / 512) × (place ≤ 47 + 88 * i) × (length out ≡ length out₀) × Appended place (seriesLines (cut 512 us) (i + 1) (drop i (cut 512 us))) out (at + length (seriesLines (cut 512 us) 1 (cut 512 us))) (written at (seriesLines (cut 512 us) 1 (cut 512 us)) out₀)
 
 abbrev μ-loop : tie.MeasureT-loop
 μ-loop us at out₀ many place₀ i₀ out place i = length us / 512 - i

@@ -15,8 +15,8 @@ returns c =
     let p = x .before .before in
     let f = p .before in
     let s = f .before in
-    let state-first = then (number-as 32 (s .state .ensures) (x .put-number .ensures .0)) (number-as 32 (f .first-number .ensures) (y .put-number2 .ensures .0)) in
-    (then state-first (number-as 10 (p .partner-number .ensures) (z .put-number3 .ensures .0)), search needs)
+    let count-first = then (number-as 32 (s .differing .ensures) (x .put-number .ensures .0)) (number-as 32 (f .first-number .ensures) (y .put-number2 .ensures .0)) in
+    (then count-first (number-as 10 (p .partner-number .ensures) (z .put-number3 .ensures .0)), search needs)
 
 pub put-mark-spec : {M : Type 1} → statement M
 put-mark-spec =

@@ -1,23 +1,17 @@
--- Without a counterpart the series stands alone; with one, the first difference tells matched from mismatched.
+-- Without a counterpart the series stands alone; with one, count and first are those of the two.
 use Rattle.laws.specs.Kit.{needs, arith}
 use Rattle.laws.specs.Bytes.{little}
-use Rattle.marks.proofs.Laws.{mark-alone, mark-matched, mark-mismatched}
+use Rattle.marks.proofs.Laws.{mark-alone, mark-found}
 use Rattle.marks.proofs.mark_in.Statement.{statement}
 use Rattle.marks.proofs.mark_in.Tie as tie
 
-matched : tie.Need-returns-2
+found : tie.Need-returns-2
 unfolding little
-matched c =
-    let d = c .before in
+found c =
+    let d = c .before .before in
     let e = d .before in
-    mark-matched _ _ _ _ (e .before .before .counterpart-slot .ensures) (e .before .if1 .left) _ (rw (e .numbered .ensures) at (d .first-difference .ensures .0)) (c .if2 .taken)
-
-mismatched : tie.Need-returns-3
-unfolding little
-mismatched c =
-    let d = c .before in
-    let e = d .before in
-    mark-mismatched _ _ _ _ (e .before .before .counterpart-slot .ensures) (e .before .if1 .left) _ (rw (e .numbered .ensures) at (d .first-difference .ensures .0)) (c .if2 .left)
+    let k = e .before in
+    mark-found _ _ _ _ (k .before .counterpart-slot .ensures) (k .if1 .left) _ _ (rw (e .numbered .ensures) at (d .compare .ensures .0)) (rw (e .numbered .ensures) at (d .compare .ensures .1))
 
 pub mark-in-spec : {M : Type 1} → statement M
 mark-in-spec =
@@ -29,8 +23,6 @@ mark-in-spec =
     (λ c κs. search needs)
     (λ c. omega arith)
     (λ c. omega arith)
-    matched
     (λ c. omega arith)
     (λ c. omega arith)
-    (λ c. omega arith)
-    mismatched)
+    found)

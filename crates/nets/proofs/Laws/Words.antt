@@ -2,10 +2,8 @@
 use Rattle.laws.specs.Kit.{_≡_, refl, sym, ap, _∙_, true, List, ℕ, _≤_, _<_, arith, length, getD, zero, suc, _%_, zero-add, is, is-yes}
 use Rattle.laws.specs.Lists.{keep}
 use Rattle.laws.specs.Lists.Each.{all-imply, every-all, all-getD}
-use Rattle.laws.specs.Bytes.{written}
 use Rattle.laws.specs.Bytes.Laws.{part-written-same}
-use Rattle.paper.specs.Check.{sealed}
-use Rattle.paper.specs.Layout.{Bytes, Block, zeros, nets, withNets}
+use Rattle.paper.specs.Layout.{Bytes, Block, zeros, nets}
 use Rattle.paper.specs.Book.{isSeriesOf, slotOf, ownSeries}
 use Rattle.paper.specs.Nets.{netOf, netsTo, netsOf}
 use Rattle.layout.specs.Written.{entries, withEntries}
@@ -28,25 +26,19 @@ module _ (e : Bytes) (l : List Block) (z v : List ℕ) (f : Few l) (n : zeros z 
   entries-to zero h = refl
   entries-to (suc k) h = rw (entries-to k (omega arith), sum-net k h)
 
-  entries-nets : entries v 100 ≡ netsOf e l
+  pub entries-nets : entries v 100 ≡ netsOf e l
   unfolding netsOf
   entries-nets = entries-to 100 (omega arith)
 
-  -- written into a block, and its check put right
-  pub nets-written : (b : Block) {c d : Block} → c ≡ withEntries v b → d ≡ sealed c → d ≡ withNets (netsOf e l) b
-  unfolding withEntries withNets
-  nets-written b w s = s ∙ ap sealed (w ∙ ap (λ q. written 108 q b) entries-nets)
-
 -- a block's entries, read where they were written
-nets-with-entries : (v : List ℕ) (b : Block) → length b ≡ 512 → nets (withEntries v b) ≡ entries v 100
+pub nets-with-entries : (v : List ℕ) (b : Block) → length b ≡ 512 → nets (withEntries v b) ≡ entries v 100
 unfolding nets withEntries
 nets-with-entries v b h = rw (entries-length v 100) at (part-written-same 108 (entries v 100) b (omega (arith, entries-length v 100)))
 
 -- of the sender in its slot
-pub nets-own : (e : Bytes) (l : List Block) (slot : ℕ) (z v : List ℕ) (b d : Block) → Few l → zeros z ≡ true → slot ≡ slotOf l e → Raised 100 (shares (ownShare e slot) l) z v
-    → length b ≡ 512 → d ≡ withEntries v b → nets d ≡ netsOf e (ownSeries l e)
+pub nets-own : (e : Bytes) (l : List Block) (slot : ℕ) (z v : List ℕ) → Few l → zeros z ≡ true → slot ≡ slotOf l e → Raised 100 (shares (ownShare e slot) l) z v
+    → entries v 100 ≡ netsOf e (ownSeries l e)
 unfolding ownSeries
-nets-own e l slot z v b d f n q r h w =
-    ap nets w ∙ nets-with-entries v b h
-    ∙ entries-nets e (keep (isSeriesOf slot) l) z v (few-keep (isSeriesOf slot) l f) n (raised-agree 100 _ _ z v (shares-own e slot l) r)
+nets-own e l slot z v f n q r =
+    entries-nets e (keep (isSeriesOf slot) l) z v (few-keep (isSeriesOf slot) l f) n (raised-agree 100 _ _ z v (shares-own e slot l) r)
     ∙ ap (λ j. netsOf e (keep (isSeriesOf j) l)) q

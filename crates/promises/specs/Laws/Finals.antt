@@ -1,5 +1,5 @@
 -- A final value once given stays: the clock does not fall and the lead does not change, so a closed position stays closed; a pair once held stays held, by rule
--- 16; and no message changes a value at a closed position, nor brings one in, by rule 14.
+-- 16; no message changes a value at a closed position, nor brings one in, by rule 14; and a conversion changes no value.
 use Rattle.laws.specs.Base.{_≡_, refl, sym, ap, _∙_, Bool, true, false, cond, true≢false, Option, none, some, Option·getD, Option·map, List, [], _∷_, _++_, ℕ, zero, suc, _+_, _-_, _*_, _≤_, _<_, le-refl, le-trans, arith}
 use Rattle.laws.specs.Tests.{_or_, neg, is, less}
 use Rattle.laws.specs.Tests.Laws.{split, or-left, or-right, or-yes-left, or-yes-right, or-else, neg-yes, neg-true, is-yes, is-no, less-no, upto-no, upto-false}
@@ -15,12 +15,14 @@ use Rattle.paper.specs.Rules.{numberOf, isOpen, closed, storedOf, verdict}
 use Rattle.paper.specs.Acceptance.{accepted, submitted}
 use Rattle.paper.specs.Finals.{held, isHeld, heldAt, finalRefused, finalIn, final}
 use Rattle.paper.specs.Clock.{clockAnswer, clockMoved}
-use Rattle.paper.specs.Calls.{Call, Desk, step, run, opening, clockMove, submission, reading}
+use Rattle.paper.specs.Conversion.{conversionNumber, converted}
+use Rattle.paper.specs.Calls.{Call, Desk, step, run, opening, clockMove, submission, conversion, reading}
 use Rattle.facts.specs.Layout.{clock-with-clock, n-with-clock, lead-with-clock, entry-quantities, quantity-nothing, entry-nothing}
 use Rattle.promises.specs.Words.{NotOpened, Unopened, finalGiven, Later}
 use Rattle.facts.specs.Sound.{Sound, sound-says, is-sound, day-n, day-block-length}
 use Rattle.facts.specs.Verdict.{Line, Accepts, accepts}
 use Rattle.facts.specs.Calls.{Moves, moves}
+use Rattle.facts.specs.Conversion.{Converts, converts, conversion-refused}
 use Rattle.facts.specs.Pairs.{pair-is-yes, viewFound, viewHeld, held-viewed}
 use Rattle.promises.specs.Laws.Parts.{Acceptance, parts}
 use Rattle.promises.specs.Laws.Stored.{held-accepted}
@@ -28,6 +30,9 @@ use Rattle.facts.specs.Stored.{present-pair}
 use Rattle.promises.specs.Laws.ReadBack.{used-accepted, day-block-accepted}
 use Rattle.promises.specs.Laws.Refusals.{opening-refused, clock-refused, submission-refused, submission-accepted}
 use Rattle.promises.specs.Laws.Soundness.{day-block-moved, used-moved}
+use Rattle.promises.specs.Laws.ConvertedSlots.{day-block-converted}
+use Rattle.promises.specs.Laws.SoundConverted.{sound-converted}
+use Rattle.promises.specs.Laws.Conversion.{held-converted}
 use Rattle.promises.specs.Laws.ById.{own-viewed}
 use Rattle.promises.specs.Laws.Invariant.{Invariant, invariant-run}
 
@@ -133,6 +138,17 @@ module _ (book message : Bytes) (a : Accepts book message) where
     values = values-now;
   }
 
+-- ---- a conversion: it keeps the day block and every quantity
+
+later-converted : (book : Bytes) → Converts book → Later book (converted book)
+later-converted book c = record {
+  n = ap nOf (day-block-converted book c);
+  leads = ap lead (day-block-converted book c);
+  clocks = rw (day-block-converted book c) (le-refl (clockPlus10080 (dayBlock book)));
+  kept = λ e p h. ap isHeld (held-converted book c e p) ∙ h;
+  values = λ e p k l h. ap (λ o. heldAt o k) (held-converted book c e p);
+}
+
 -- ---- one call, accepted or refused
 
 pub later-clock : (book : Bytes) (minute : ℕ) → Later book (clockMoved book minute)
@@ -145,6 +161,11 @@ later-submission book message = split (is (numberOf (verdict book message)) 0)
     (λ t. rw (submission-accepted book message (is-yes _ _ t)) (later-accepted book message (accepts book message (is-yes _ _ t))))
     (λ t. rw (submission-refused book message (is-no _ _ t)) (later-refl book))
 
+pub later-conversion : (book : Bytes) → Later book (converted book)
+later-conversion book = split (is (conversionNumber book) 0)
+    (λ t. later-converted book (converts book (is-yes _ _ t)))
+    (λ t. rw (conversion-refused book (is-no _ _ t)) (later-refl book))
+
 -- ---- any calls
 
 later-step : (k : Desk) (c : Call) → NotOpened k c → Later (k .book) ((step k c) .book)
@@ -152,6 +173,7 @@ unfolding step
 later-step k (opening o) s = rw (opening-refused (k .book) o s) (later-refl (k .book))
 later-step k (clockMove minute) s = later-clock (k .book) minute
 later-step k (submission m) s = later-submission (k .book) m
+later-step k conversion s = later-conversion (k .book)
 later-step k reading s = later-refl (k .book)
 
 later-run : (k : Desk) (cs : List Call) → Unopened k cs → Later (k .book) ((run k cs) .book)
@@ -206,6 +228,12 @@ unfolding final
 final-carried b c s f seller buyer p v r = split (sound b)
     (λ t. rw (is-sound c s) (final-in-later b c f (day-n _ (sound-says b t .day)) seller buyer p v (rw t at r)))
     (λ t. absurd (refused-not-given 0 v (rw t at r)))
+
+-- whatever the bytes: a conversion that is accepted leaves a sound book, and one that is refused all as it was
+pub final-converted : (book seller buyer : Bytes) (p v : ℕ) → final book seller buyer p ≡ finalGiven v → final (converted book) seller buyer p ≡ finalGiven v
+final-converted book seller buyer p v r = split (is (conversionNumber book) 0)
+    (λ t. let c : Converts book = converts book (is-yes _ _ t) in final-carried book (converted book) (sound-converted book c) (later-converted book c) seller buyer p v r)
+    (λ t. rw (conversion-refused book (is-no _ _ t)) r)
 
 pub final-stays : (k : Desk) (calls : List Call) → Invariant (k .book) (k .messages) → Unopened k calls → (seller buyer : Bytes) (p v : ℕ)
     → final (k .book) seller buyer p ≡ finalGiven v → final ((run k calls) .book) seller buyer p ≡ finalGiven v

@@ -1,7 +1,8 @@
--- What holds of a book and the messages accepted since it was opened: it holds after an accepted opening, each call keeps it, and so it holds after any calls.
+-- What holds of a book and the messages accepted since it began: it holds after an accepted opening, and after an accepted conversion with the messages kept; each call
+-- keeps it, and so it holds after any calls.
 use Rattle.laws.specs.Base.{_≡_, refl, sym, ap, _∙_, true, cond, some, Option·map, List, [], _∷_, _++_, ℕ, _≤_, _<_, arith, length}
 use Rattle.laws.specs.Tests.{is, less}
-use Rattle.laws.specs.Tests.Laws.{split, is-yes, is-no, less-yes, less-no}
+use Rattle.laws.specs.Tests.Laws.{split, is-yes, is-no, is-equal, less-yes, less-no}
 use Rattle.laws.specs.Lists.{same, find, apart, All}
 use Rattle.laws.specs.Lists.Each.{all-imply}
 use Rattle.paper.specs.Layout.{Bytes, Block, nOf, sender, nets, quantities, quantity}
@@ -13,13 +14,15 @@ use Rattle.paper.specs.Acceptance.{accepted, submitted}
 use Rattle.paper.specs.Finals.{held}
 use Rattle.paper.specs.Opening.{Opening, openNumber, opened}
 use Rattle.paper.specs.Clock.{clockAnswer, clockMoved}
+use Rattle.paper.specs.Conversion.{conversionNumber, converted, keptMessages}
 use Rattle.paper.specs.PlainRule.{orElse, latest, seriesOfLatest, plainHeld, plainNets}
-use Rattle.paper.specs.Calls.{Call, Desk, step, run, submission, reading, opening, clockMove}
+use Rattle.paper.specs.Calls.{Call, Desk, step, run, opening, clockMove, submission, conversion, reading}
 use Rattle.facts.specs.Layout.{n-with-clock}
 use Rattle.facts.specs.Book.{used-lengths}
 use Rattle.facts.specs.Sound.{Sound}
 use Rattle.facts.specs.Verdict.{series-some-few, Line, sameIdOrPair, Accepts, accepts}
 use Rattle.facts.specs.Calls.{Moves, moves, Opens, opens}
+use Rattle.facts.specs.Conversion.{Converts, converts, conversion-refused}
 use Rattle.facts.specs.Pairs.{viewFound, viewHeld, held-viewed}
 use Rattle.facts.specs.Renewal.{shape}
 use Rattle.promises.specs.Laws.Marks.{MarksTrue, marks-kept}
@@ -28,7 +31,12 @@ use Rattle.promises.specs.Laws.ReadBack.{used-accepted, day-block-accept
 use Rattle.promises.specs.Laws.Refusals.{opening-refused, clock-refused, submission-refused, submission-accepted}
 use Rattle.promises.specs.Laws.Soundness.{sound-accepted, day-block-moved, used-moved, sound-moved, used-opened, sound-opened}
 use Rattle.promises.specs.Laws.Stored.{held-accepted, content-accepted}
-use Rattle.promises.specs.Words.{content, headContent, messagesAfter, plainContent, plainHeadContent}
+use Rattle.promises.specs.Laws.ById.{own-viewed}
+use Rattle.promises.specs.Laws.OwnSeries.{own-few, own-small, own-distinct}
+use Rattle.promises.specs.Laws.SoundConverted.{sound-converted}
+use Rattle.promises.specs.Laws.Conversion.{marks-converted, nets-converted}
+use Rattle.promises.specs.Laws.KeptMessages.{series-of-latest-kept, heads-kept, plain-nets-kept}
+use Rattle.promises.specs.Words.{content, headContent, Starts, begun, messagesAfter, plainContent, plainHeadContent}
 
 -- ---- the messages, one longer
 
@@ -142,6 +150,27 @@ invariant-opened book o e =
       within = λ t. record { few = omega arith; small = λ k h. tt };
     }
 
+-- a book whose marks and nets are true, and the messages that it keeps
+invariant-kept : (book : Bytes) → Sound book → MarksTrue (nOf (dayBlock book)) (used book) → NetsTrue (used book) → Invariant book (keptMessages (used book))
+invariant-kept book s m v =
+    let own : (e : Bytes) → seriesOfLatest (latest e (keptMessages (used book))) ≡ ownSeries (used book) e = series-of-latest-kept book s in
+    record {
+      good = s;
+      stored = λ e p. rw (own e) (sym (own-viewed quantities (used book) e p));
+      contents = λ e p. rw (own e) (sym (own-viewed content (used book) e p));
+      heads = heads-kept book s;
+      marks = m;
+      kept-nets = v;
+      plain = λ e. plain-nets-kept book s e v;
+      distinct = λ e. rw (own e) (own-distinct book s e);
+      within = λ e. rw (own e) (record { few = own-few book s e; small = own-small book s e });
+    }
+
+pub invariant-converted : (book : Bytes) → conversionNumber book ≡ 0 → Invariant (converted book) (keptMessages (used (converted book)))
+invariant-converted book e =
+    let c : Converts book = converts book e in
+    invariant-kept (converted book) (sound-converted book c) (marks-converted book c) (nets-converted book c)
+
 invariant-moved : (book : Bytes) (ms : List Bytes) (minute : ℕ) → Moves book minute → Invariant book ms → Invariant (clockMoved book minute) ms
 invariant-moved book ms minute m v =
     let n : nOf (dayBlock (clockMoved book minute)) ≡ nOf (dayBlock book) = ap nOf (day-block-moved book minute m) ∙ n-with-clock minute (dayBlock book) in
@@ -175,6 +204,12 @@ submission-kept book ms m v = split (is (numberOf (verdict book m)) 0)
     (λ t. rw (t, submission-accepted book m (is-yes _ _ t)) (invariant-accepted book ms m (accepts book m (is-yes _ _ t)) v))
     (λ t. rw (t, submission-refused book m (is-no _ _ t)) v)
 
+pub conversion-kept : (book : Bytes) (ms : List Bytes) → Invariant book ms
+    → Invariant (converted book) (cond (is (conversionNumber book) 0) (keptMessages (used (converted book))) ms)
+conversion-kept book ms v = split (is (conversionNumber book) 0)
+    (λ t. rw t (invariant-converted book (is-yes _ _ t)))
+    (λ t. rw (t, conversion-refused book (is-no _ _ t)) v)
+
 -- ---- any calls
 
 invariant-step : (k : Desk) (c : Call) → Invariant (k .book) (k .messages) → Invariant ((step k c) .book) ((step k c) .messages)
@@ -182,9 +217,15 @@ unfolding step messagesAfter
 invariant-step k (opening o) v = opening-kept (k .book) (k .messages) o v
 invariant-step k (clockMove minute) v = clock-kept (k .book) (k .messages) minute v
 invariant-step k (submission m) v = submission-kept (k .book) (k .messages) m v
+invariant-step k conversion v = conversion-kept (k .book) (k .messages) v
 invariant-step k reading v = v
 
 pub invariant-run : (k : Desk) (cs : List Call) → Invariant (k .book) (k .messages) → Invariant ((run k cs) .book) ((run k cs) .messages)
 unfolding run
 invariant-run k [] v = v
 invariant-run k (c ∷ cs) v = invariant-run (step k c) cs (invariant-step k c v)
+
+pub invariant-begun : (buffer : Bytes) (start : Call) → Starts buffer start → Invariant ((begun buffer start) .book) ((begun buffer start) .messages)
+unfolding step
+invariant-begun buffer (opening o) e = rw (is-equal _ _ e) (invariant-opened buffer o e)
+invariant-begun buffer conversion e = rw (is-equal _ _ e) (invariant-converted buffer e)

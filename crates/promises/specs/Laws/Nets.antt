@@ -1,6 +1,6 @@
 -- A sender's nets are the words of its sums at each position: within their range, for at most 200 quantities of at most 9,999,999 are summed; zero above n, for
--- the quantities are; and they depend on the two sums alone.
-use Rattle.laws.specs.Base.{_≡_, refl, sym, ap, _∙_, Bool, true, false, cond, List, _++_, ℕ, zero, suc, _+_, _-_, _*_, _%_, _≤_, _<_, arith, length, length-append}
+-- the quantities are.
+use Rattle.laws.specs.Base.{_≡_, refl, sym, ap, _∙_, Bool, true, false, cond, List, _++_, ℕ, zero, suc, _+_, _-_, _*_, _%_, _≤_, _<_, arith, length}
 use native.Mathlib.Decide.{ℕ-discrete}
 use Rattle.laws.specs.Tests.{upto}
 use Rattle.laws.specs.Tests.Laws.{split, and-both, or-yes-left, or-yes-right, upto-no, upto-true, below-each}
@@ -13,16 +13,7 @@ use Rattle.paper.specs.Layout.{Bytes, Block, inParty, outParty, entry, quantity
 use Rattle.paper.specs.Ranges.{netAllowed, netsAllowed}
 use Rattle.paper.specs.Nets.{bought, sold, netOf, netsTo, netsOf}
 use Rattle.facts.specs.Layout.{nets-with-nets, entry-nets, zeros-above, net-is-quantity}
-use Rattle.facts.specs.Nets.{bought-most, sold-most}
-
-pub nets-to-length : (e : Bytes) (l : List Block) (m : ℕ) → length (netsTo e l m) ≡ 4 * m
-unfolding netsTo
-nets-to-length e l zero = refl
-nets-to-length e l (suc m) = omega (arith, length-append (netsTo e l m) (little 4 (netOf e l m)), little-length 4 (netOf e l m), nets-to-length e l m)
-
-pub nets-of-length : (e : Bytes) (l : List Block) → length (netsOf e l) ≡ 400
-unfolding netsOf
-nets-of-length e l = nets-to-length e l 100
+use Rattle.facts.specs.Nets.{bought-most, sold-most, nets-to-length, nets-of-length}
 
 net-word : (e : Bytes) (l : List Block) (k : ℕ) → value (little 4 (netOf e l k)) ≡ netOf e l k
 unfolding netOf
@@ -87,13 +78,3 @@ nets-allowed e l s n h w f low high =
     and-both _ _ (below-each (λ k. netAllowed (net (withNets (netsOf e l) s) k)) n (λ k t. rw (net-with-nets e l s w k (omega arith))
     (net-range e l k f (low k t))))
     (zeros-above n (withNets (netsOf e l) s) h (λ k t u. sym (net-is-quantity _ k) ∙ net-with-nets e l s w k t ∙ net-none e l k (high k t u)))
-
--- ---- what they depend on
-
-pub nets-agree : (e : Bytes) (l r : List Block) → ((k : ℕ) → k < 100 → (bought e l k ≡ bought e r k) × (sold e l k ≡ sold e r k)) → netsOf e l ≡ netsOf e r
-unfolding netsOf netsTo netOf
-nets-agree e l r f = by 100 (omega arith)
-  where
-    by : (m : ℕ) → m ≤ 100 → netsTo e l m ≡ netsTo e r m
-    by zero h = refl
-    by (suc m) h = let q = f m (omega arith) in rw (by m (omega arith), q .0, q .1)

@@ -17,7 +17,7 @@ use Rattle.facts.specs.Verdict.{Accepts}
 use Rattle.facts.specs.Renewal.{Shape, shape, sender-kept-sender, sender-kept-is-sender, renewed-sender, renewed-other, sender-block-renewed}
 use Rattle.facts.specs.Remarking.{remarked-no-series, alike-remarked, sender-block-remarked}
 use Rattle.facts.specs.Senders.{slots-differ, fresh-new, fresh-no-sender-block, slot-after-own, slot-after-other}
-use Rattle.promises.specs.Laws.Nets.{nets-of-length, nets-agree}
+use Rattle.facts.specs.Nets.{nets-of-length, nets-agree}
 use Rattle.promises.specs.Laws.Parts.{afterOf, Acceptance, parts}
 use Rattle.promises.specs.Laws.SoundSenders.{by-sender}
 use Rattle.promises.specs.Laws.Sums.{total-own, total-other}
@@ -27,10 +27,10 @@ unfoldable pub NetsTrue : List Block → Type 0
 NetsTrue us = All (λ s. isSender s ≡ true → nets s ≡ netsOf (sender s) (ownSeries us (sender s))) us
 
 -- the share of a series in a sum, the same for series that agree but for sender's slot and mark
-share-in : (e : Bytes) (k : ℕ) (x y : Block) → k < 100 → Alike x y → cond (same (inParty x) e) (quantity x k) 0 ≡ cond (same (inParty y) e) (quantity y k) 0
+pub share-in : (e : Bytes) (k : ℕ) (x y : Block) → k < 100 → Alike x y → cond (same (inParty x) e) (quantity x k) 0 ≡ cond (same (inParty y) e) (quantity y k) 0
 share-in e k x y h a = rw (alike-in-party x y a, alike-quantity x y a k h)
 
-share-out : (e : Bytes) (k : ℕ) (x y : Block) → k < 100 → Alike x y → cond (same (outParty x) e) (quantity x k) 0 ≡ cond (same (outParty y) e) (quantity y k) 0
+pub share-out : (e : Bytes) (k : ℕ) (x y : Block) → k < 100 → Alike x y → cond (same (outParty x) e) (quantity x k) 0 ≡ cond (same (outParty y) e) (quantity y k) 0
 share-out e k x y h a = rw (alike-out-party x y a, alike-quantity x y a k h)
 
 module _ (book message : Bytes) (a : Accepts book message) where

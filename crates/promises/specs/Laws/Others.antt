@@ -1,12 +1,11 @@
 -- An acceptance renews the sender's own blocks alone, and marks anew besides these only series with a pair of the sender's, which are its counterparts: any
 -- other block keeps its slot and every byte; and nothing is written before the used slots or behind them.
-use Rattle.laws.specs.Base.{_≡_, refl, sym, ap, _∙_, true, false, some, Option·map, List, _++_, map, ℕ, _+_, _*_, length, drop, drop-at}
+use Rattle.laws.specs.Base.{_≡_, refl, sym, ap, _∙_, true, false, some, Option·map, List, _++_, map, ℕ, _+_, _*_, length, drop}
 use Rattle.laws.specs.Tests.{_and_, is}
 use Rattle.laws.specs.Tests.Laws.{split, clash, and-left, and-right, and-both, and-no, or-else, neg-true}
 use Rattle.laws.specs.Lists.{nth, has}
 use Rattle.laws.specs.Lists.Each.{all-nth, nth-append-left, nth-map}
 use Rattle.laws.specs.Lists.Search.{has-yes, find-passes, find-has-other, has-map-each}
-use Rattle.laws.specs.Cut.{join}
 use Rattle.paper.specs.Layout.{Bytes, Block, nOf, sender, sendersSlot, pair}
 use Rattle.paper.specs.Book.{dayBlock, used, isSeries, isSenderBlockOf, slotOf, isSeriesOf, isSeriesOfPair}
 use Rattle.paper.specs.Message.{headOf, seriesOf}
@@ -20,7 +19,8 @@ use Rattle.facts.specs.Renewal.{Shape, shape, renewed-other}
 use Rattle.facts.specs.Remarking.{mark-in-length, remarked-touched, remarked-untouched, remarked-keeps}
 use Rattle.facts.specs.Senders.{owned, own-by-slot-for, slot-after-own}
 use Rattle.promises.specs.Laws.Parts.{Acceptance, parts}
-use Rattle.promises.specs.Laws.ReadBack.{used-accepted, accepted-front}
+use Rattle.promises.specs.Laws.Rewritten.{rest-rewritten}
+use Rattle.promises.specs.Laws.ReadBack.{rewrites, used-accepted}
 use Rattle.promises.specs.Words.{ButMark, isCounterpartOf}
 
 but-mark-remarked : (n slot : ℕ) (l : List Block) (x : Block) → ButMark x (remarked n slot l x)
@@ -81,7 +81,4 @@ module _ (book message : Bytes) (a : Accepts book message) where
 
   pub rest-kept : drop (512 + 512 * length (used (accepted book message))) (accepted book message) ≡ drop (512 + 512 * length (used (accepted book message))) book
   unfolding accepted
-  rest-kept =
-      ap (λ l. drop (512 + 512 * length l) (accepted book message)) (used-accepted book message a)
-      ∙ drop-at (dayBlock book ++ join after) _ _ (accepted-front book message a)
-      ∙ ap (λ l. drop (512 + 512 * length l) book) (sym (used-accepted book message a))
+  rest-kept = rw (used-accepted book message a) (rest-rewritten book after (rewrites book message a))

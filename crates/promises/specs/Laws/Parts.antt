@@ -1,4 +1,4 @@
--- Short names for the parts of an acceptance of a message into a book, so that a statement about them stays one line.
+-- Short names for the parts of an acceptance of a message into a book, and of a conversion, so that a statement about them stays one line.
 use Rattle.laws.specs.Base.{List, ℕ}
 use Rattle.laws.specs.Lists.{keep}
 use Rattle.paper.specs.Layout.{Bytes, Block, nOf, sender}
@@ -6,6 +6,7 @@ use Rattle.paper.specs.Book.{dayBlock, used, ownSeries}
 use Rattle.paper.specs.Message.{headOf, seriesOf}
 use Rattle.paper.specs.Rules.{isNew}
 use Rattle.paper.specs.Acceptance.{slotFor, renewed, placed, remarked, usedAfter}
+use Rattle.paper.specs.Conversion.{convertedBlock, usedConverted}
 
 -- the slot that the sender has or gets
 abbrev pub senderSlot : Bytes → Bytes → ℕ
@@ -61,3 +62,11 @@ parts book message = record {
   put = remarkedOf book message;
   after = afterOf book message;
 }
+
+-- ---- a conversion: a used block, and the used slots after it
+
+abbrev pub againOf : Bytes → Block → Block
+againOf book = convertedBlock (nOf (dayBlock book)) (used book)
+
+abbrev pub usedAgainOf : Bytes → List Block
+usedAgainOf book = usedConverted (nOf (dayBlock book)) (used book)

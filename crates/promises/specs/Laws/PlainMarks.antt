@@ -1,32 +1,29 @@
 -- The marks kept are the plain rule's: a true mark is worked out from the series' quantities and its counterpart's, these are what the two parties last sent
 -- under the pair, and the slot in it is the counterpart's.
 use Rattle.laws.specs.Base.{_≡_, refl, sym, ap, ap₂, _∙_, Bool, true, false, true≢false, Option, none, some, Option·getD, Option·map, List, [], _∷_, ℕ, _<_, arith}
-use Rattle.laws.specs.Tests.{_or_, neg}
-use Rattle.laws.specs.Tests.Laws.{split, and-left, and-both, or-yes-left, or-yes-right, neg-true, is-yes}
-use Rattle.laws.specs.Lists.{same, find, has, place, nth, every, apart, All}
-use Rattle.laws.specs.Lists.Same.{same-equal}
-use Rattle.laws.specs.Lists.Each.{all-imply, all-nth, all-find, all-every}
+use Rattle.laws.specs.Tests.Laws.{and-left, is-yes}
+use Rattle.laws.specs.Lists.{find, has, place, nth, apart, All}
+use Rattle.laws.specs.Lists.Each.{all-nth, all-find}
 use Rattle.laws.specs.Lists.Search.{has-yes, find-passes, find-agree, place-length, nth-place, place-agree}
 use Rattle.laws.specs.Bytes.{part, value, number}
 use Rattle.laws.specs.Bytes.Laws.{number-part}
-use Rattle.paper.specs.Layout.{Bytes, Block, nOf, sender, nets, sendersSlot, pair, mark, partner, quantities}
-use Rattle.paper.specs.Book.{dayBlock, used, isSender, isSeries, isSenderBlockOf, slotOf, ownSeries, isSeriesOfPair}
+use Rattle.paper.specs.Layout.{Bytes, Block, nOf, sendersSlot, pair, mark, partner, quantities}
+use Rattle.paper.specs.Book.{dayBlock, used, isSeries, isSenderBlockOf, slotOf, isSeriesOfPair}
 use Rattle.paper.specs.Sound.{senderFields, senderSound, usedSound, sameSeries}
 use Rattle.paper.specs.Message.{headOf}
 use Rattle.paper.specs.Marks.{isCounterpart, counterpart, counterpartSlot, markOf, markIn}
-use Rattle.paper.specs.Nets.{netsOf}
 use Rattle.paper.specs.Finals.{held}
-use Rattle.paper.specs.PlainRun.{markTrue, netsTrue, plainRun}
+use Rattle.paper.specs.PlainRun.{plainRun}
 use Rattle.paper.specs.PlainRule.{latest, nOfLatest, plainHeld, otherParty, plainMark}
 use Rattle.facts.specs.Layout.{mark-partner}
-use Rattle.facts.specs.Sound.{is-sound, used-few, used-sender}
+use Rattle.facts.specs.Sound.{used-few, used-sender}
 use Rattle.facts.specs.Pairs.{pair-is-equal, of-pair-yes, of-pair-series, of-pair-slot, of-pair-pair, viewFound, viewHeld, held-viewed}
 use Rattle.promises.specs.Laws.Marks.{MarksTrue}
 use Rattle.facts.specs.Book.{sender-block-sender}
 use Rattle.facts.specs.Senders.{slot-of-one, Owner, Owned, owned}
 use Rattle.promises.specs.Laws.SoundApart.{same-series-yes, same-pair-yes}
 use Rattle.promises.specs.Laws.SoundSeries.{partner-in}
-use Rattle.promises.specs.Laws.NetsTrue.{NetsTrue}
+use Rattle.promises.specs.Laws.PlainRun.{true-yes}
 use Rattle.promises.specs.Laws.ById.{apart-find}
 use Rattle.promises.specs.Laws.Invariant.{Invariant, held-plain}
 use Rattle.promises.specs.Laws.Sides.{sides}
@@ -168,17 +165,5 @@ module _ (book : Bytes) (ms : List Bytes) (v : Invariant book ms) where
 
   -- ---- the plain run
 
-  all-marks : every (markTrue n us) us ≡ true
-  unfolding MarksTrue markTrue
-  all-marks = all-every _ us (all-imply (λ x. isSeries x ≡ true → mark x ≡ markIn n us x) (λ x. (neg (isSeries x) or same (mark x) (markIn n us x)) ≡ true)
-      (λ x f. split (isSeries x) (λ t. or-yes-right _ _ (same-equal _ _ (f t))) (λ t. or-yes-left _ _ (neg-true _ t))) us (v .marks))
-
-  all-nets : every (netsTrue us) us ≡ true
-  unfolding NetsTrue netsTrue
-  all-nets = all-every _ us (all-imply (λ x. isSender x ≡ true → nets x ≡ netsOf (sender x) (ownSeries us (sender x)))
-      (λ x. (neg (isSender x) or same (nets x) (netsOf (sender x) (ownSeries us (sender x)))) ≡ true)
-      (λ x f. split (isSender x) (λ t. or-yes-right _ _ (same-equal _ _ (f t))) (λ t. or-yes-left _ _ (neg-true _ t))) us (v .kept-nets))
-
   pub says-yes : plainRun book ≡ record { number = 0; holds = true }
-  unfolding plainRun
-  says-yes = rw (is-sound book (v .good), and-both _ _ all-marks all-nets)
+  says-yes = true-yes book (v .good) (v .marks) (v .kept-nets)

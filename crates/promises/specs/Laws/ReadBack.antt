@@ -1,29 +1,22 @@
--- What an acceptance writes is read back as the blocks that it was made of: they are whole blocks, none of them is free, there is room for them, and behind
--- them all slots stay free.
-use Rattle.laws.specs.Base.{_≡_, ap, _∙_, true, false, List, _++_, append-assoc, ℕ, _+_, _-_, _*_, _/_, _≤_, _<_, arith, length, drop, length-append, length-drop, length-map, drop-drop}
+-- What an acceptance writes is read back as the blocks that it was made of: they are whole blocks, each a sender's or a series, there is room for them, and none of
+-- the used slots is given up.
+use Rattle.laws.specs.Base.{_≡_, _∙_, true, false, List, ℕ, _/_, _≤_, _<_, arith, length, length-map}
 use Rattle.laws.specs.Tests.{_or_}
 use Rattle.laws.specs.Tests.Laws.{split, clash, or-yes-left, or-yes-right, or-else}
 use Rattle.laws.specs.Lists.{All}
-use Rattle.laws.specs.Lists.Each.{all-imply, all-drop, all-map}
-use Rattle.laws.specs.Cut.{join}
-use Rattle.laws.specs.Cut.Laws.{join-length}
-use Rattle.paper.specs.Layout.{Bytes, Block, blocks, nOf, sender}
-use Rattle.paper.specs.Book.{dayBlock, slots, isFree, used, isSender, isSeries, isSenderBlockOf}
-use Rattle.paper.specs.Sound.{usedSound}
+use Rattle.laws.specs.Lists.Each.{all-imply, all-map}
+use Rattle.paper.specs.Layout.{Bytes, Block, nOf, sender}
+use Rattle.paper.specs.Book.{dayBlock, used, isSender, isSeries, isSenderBlockOf}
 use Rattle.paper.specs.Message.{headOf, seriesOf}
 use Rattle.paper.specs.Acceptance.{slotFor, renewed, placed, remarked, usedAfter, accepted}
-use Rattle.facts.specs.Book.{kind-used, series-of-other, day-block-append, slots-length, slots-joined, used-joined, slots-rest, used-lengths}
-use Rattle.facts.specs.Sound.{Sound, day-block-length, used-kind}
+use Rattle.facts.specs.Book.{series-of-other, slots-length, used-lengths}
 use Rattle.facts.specs.Verdict.{Accepts}
 use Rattle.facts.specs.Renewal.{Shape, shape, series-with-senders-slot, sender-kept-is-sender, sender-kept-no-series, renewed-sender, renewed-other, series-renewed, by-origin, placed-lengths, placed-fits, placed-length}
 use Rattle.facts.specs.Remarking.{remarked-no-series, series-remarked, remarked-length}
 use Rattle.promises.specs.Laws.Parts.{afterOf}
+use Rattle.promises.specs.Laws.Rewritten.{used-live, Rewrites, used-rewritten, day-block-rewritten}
 
--- ---- no block is free
-
-used-live : (book : Bytes) → Sound book → All (λ x. (isSender x or isSeries x) ≡ true) (used book)
-used-live book s = all-imply (λ x. usedSound (dayBlock book) (used book) x ≡ true) (λ x. (isSender x or isSeries x) ≡ true)
-    (λ x q. used-kind (dayBlock book) (used book) x q) (used book) (s .each)
+-- ---- each block is a sender's or a series
 
 module _ (us : List Block) (h : Block) (series : List Block) (c : Shape us h series) (n : ℕ) where
   abbrev put : Block → Block
@@ -58,21 +51,9 @@ module _ (us : List Block) (h : Block) (series : List Block) (c : Shape us h ser
 
 -- ---- of an accepted message
 
-pub free-from : (book : Bytes) → Sound book → (k : ℕ) → length (used book) ≤ k → All (λ x. isFree x ≡ true) (drop k (slots book))
-free-from book s k h =
-    let j : length (used book) + (k - length (used book)) ≡ k = omega arith in
-    rw (drop-drop (k - length (used book)) (length (used book)) (slots book), j) at
-    (all-drop (λ x. isFree x ≡ true) (k - length (used book)) (drop (length (used book)) (slots book)) (s .free))
-
 module _ (book message : Bytes) (a : Accepts book message) where
-  pub lengths-after : All (λ x. length x ≡ 512) (afterOf book message)
-  lengths-after = after-lengths (used book) (headOf message) (seriesOf message) (shape book message a) (nOf (dayBlock book)) (used-lengths book)
-
   pub live-after : All (λ x. (isSender x or isSeries x) ≡ true) (afterOf book message)
   live-after = after-live (used book) (headOf message) (seriesOf message) (shape book message a) (nOf (dayBlock book)) (used-live book (a .was))
-
-  used-after : All (λ x. isFree x ≡ false) (afterOf book message)
-  used-after = all-imply (λ x. (isSender x or isSeries x) ≡ true) (λ x. isFree x ≡ false) kind-used (afterOf book message) live-after
 
   after-length : length (afterOf book message) ≡ length (placed (used book) (headOf message) (seriesOf message))
   unfolding usedAfter
@@ -81,41 +62,19 @@ module _ (book message : Bytes) (a : Accepts book message) where
   pub after-fits : length (afterOf book message) < length book / 512
   after-fits = let r : 2 ≤ length book / 512 = a .was .least in omega (arith, after-length, placed-fits book message a, slots-length book)
 
-  pub after-most : length (used book) ≤ length (afterOf book message)
-  after-most = omega (arith, after-length, placed-length (used book) (headOf message) (seriesOf message))
-
-  rest-after : All (λ x. isFree x ≡ true) (blocks (drop (512 + 512 * length (afterOf book message)) book))
-  rest-after = rw (slots-rest book (length (afterOf book message))) (free-from book (a .was) (length (afterOf book message)) after-most)
+  pub rewrites : Rewrites book (afterOf book message)
+  rewrites = record {
+    was = a .was;
+    whole = after-lengths (used book) (headOf message) (seriesOf message) (shape book message a) (nOf (dayBlock book)) (used-lengths book);
+    live = live-after;
+    most = omega (arith, after-length, placed-length (used book) (headOf message) (seriesOf message));
+    fits = after-fits;
+  }
 
   pub used-accepted : used (accepted book message) ≡ afterOf book message
   unfolding accepted
-  used-accepted = used-joined (dayBlock book) (afterOf book message) _ (day-block-length book (a .was)) lengths-after used-after rest-after
-
-  pub slots-accepted : slots (accepted book message) ≡ afterOf book message ++ drop (length (afterOf book message)) (slots book)
-  unfolding accepted
-  slots-accepted = slots-joined (dayBlock book) (afterOf book message) _ (day-block-length book (a .was)) lengths-after ∙ ap (λ r. (afterOf book message) ++ r)
-      (slots-rest book (length (afterOf book message)))
+  used-accepted = used-rewritten book (afterOf book message) rewrites
 
   pub day-block-accepted : dayBlock (accepted book message) ≡ dayBlock book
   unfolding accepted
-  day-block-accepted = ap dayBlock (append-assoc (dayBlock book) (join (afterOf book message)) _) ∙ day-block-append (dayBlock book) _
-      (day-block-length book (a .was))
-
-  pub accepted-front : length (dayBlock book ++ join (afterOf book message)) ≡ 512 + 512 * length (afterOf book message)
-  accepted-front = length-append (dayBlock book) (join (afterOf book message)) ∙ omega (
-    arith,
-    day-block-length book (a .was),
-    join-length 512
-        (afterOf book message) lengths-after,
-  )
-
-  pub accepted-length : length (accepted book message) ≡ length book
-  unfolding accepted
-  accepted-length = omega (
-    arith,
-    after-fits,
-    accepted-front,
-    length-append (dayBlock book ++ join (afterOf book message))
-        (drop (512 + 512 * length (afterOf book message)) book),
-    length-drop (512 + 512 * length (afterOf book message)) book,
-  )
+  day-block-accepted = day-block-rewritten book (afterOf book message) rewrites

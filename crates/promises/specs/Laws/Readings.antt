@@ -2,30 +2,28 @@
 -- a net is the signed sum of its quantities, and a final is worked out from what each party last sent.
 use Rattle.laws.specs.Base.{_≡_, refl, sym, ap, _∙_, true, false, true≢false, Option, none, some, Option·getD, Option·map, List, [], _++_, ℕ, _<_, length}
 use Rattle.laws.specs.Tests.Laws.{and-left}
-use Rattle.laws.specs.Lists.{find, place, nth, keep, All}
-use Rattle.laws.specs.Lists.Each.{all-keep, all-kept}
+use Rattle.laws.specs.Lists.{find, place, nth, All}
+use Rattle.laws.specs.Lists.Each.{all-keep}
 use Rattle.laws.specs.Lists.Search.{find-passes, find-keep-and, nth-place}
-use Rattle.laws.specs.Lists.Apart.{apart-keep}
 use Rattle.paper.specs.Layout.{Bytes, Block, nets, net, sendersSlot, pair, mark, partner, entry}
 use Rattle.paper.specs.Book.{dayBlock, used, isSeries, idIs, pairIs, isSenderBlockOf, slotOf, isSeriesOf, isSeriesOfPair, ownSeries}
-use Rattle.paper.specs.Sound.{sameSeries}
 use Rattle.paper.specs.Message.{seriesOf}
 use Rattle.paper.specs.Nets.{bought, sold, netOf, netsOf}
 use Rattle.paper.specs.Finals.{finalIn, final}
 use Rattle.paper.specs.Readings.{isStoredAs, storedAs, markFound, markAnswer, acceptedBlock}
 use Rattle.paper.specs.PlainRule.{latest, seriesOfLatest, otherParty, plainNets}
-use Rattle.facts.specs.Layout.{mark-state, mark-first, mark-partner, net-is-quantity, entry-nets}
+use Rattle.facts.specs.Layout.{mark-differing, mark-first, mark-partner, net-is-quantity, entry-nets}
 use Rattle.facts.specs.Book.{series-of-series, series-of-slot, used-lengths}
 use Rattle.facts.specs.Sound.{is-sound}
-use Rattle.facts.specs.Verdict.{sameIdOrPair, series-lengths}
+use Rattle.facts.specs.Verdict.{series-lengths}
 use Rattle.facts.specs.Nets.{SignedSum, net-signed}
 use Rattle.facts.specs.Pairs.{viewFound}
-use Rattle.promises.specs.Laws.SoundApart.{same-series-yes}
 use Rattle.promises.specs.Laws.Invariant.{Within, Invariant, held-plain}
 use Rattle.promises.specs.Laws.Nets.{nets-entry}
-use Rattle.promises.specs.Laws.ById.{apart-less, own-viewed, Row, other-has, by-id}
+use Rattle.promises.specs.Laws.ById.{own-viewed, Row, other-has, by-id}
+use Rattle.promises.specs.Laws.OwnSeries.{own-distinct}
 use Rattle.promises.specs.Laws.PlainMarks.{mark-plain, partner-found}
-use Rattle.promises.specs.Words.{content, plainStoredAs, markGiven, plainMarkFound, plainMarkAnswer, plainFinal}
+use Rattle.promises.specs.Words.{content, plainStoredAs, markTold, plainMarkFound, plainMarkAnswer, plainFinal}
 
 latest-lengths : (found : Option Bytes) → All (λ y. length y ≡ 512) (seriesOfLatest found)
 unfolding seriesOfLatest
@@ -36,9 +34,9 @@ not-viewed : (o : Option Block) → none ≡ Option·map content o → o ≡ non
 not-viewed none e = refl
 not-viewed (some y) e = let z : true ≡ false = cc in absurd (true≢false z)
 
-mark-found-given : (x : Block) → markFound (some x) ≡ markGiven (mark x)
-unfolding markFound markGiven
-mark-found-given x = rw (mark-state x, mark-first x, mark-partner x)
+mark-found-told : (x : Block) → markFound (some x) ≡ markTold (mark x)
+unfolding markFound markTold
+mark-found-told x = rw (mark-differing x, mark-first x, mark-partner x)
 
 module _ (book : Bytes) (ms : List Bytes) (v : Invariant book ms) where
   abbrev us : List Block
@@ -50,9 +48,7 @@ module _ (book : Bytes) (ms : List Bytes) (v : Invariant book ms) where
   unfolding ownSeries
   own-row e = record {
     whole = all-keep (λ x. length x ≡ 512) (isSeriesOf (slotOf us e)) us (used-lengths book);
-    distinct = apart-less sameIdOrPair sameSeries (λ x. isSeriesOf (slotOf us e) x ≡ true)
-        (λ x y a b t. same-series-yes x y (series-of-series _ x a) (series-of-series _ y b) (series-of-slot _ x a ∙ sym (series-of-slot _ y b)) t)
-        (keep (isSeriesOf (slotOf us e)) us) (all-kept (isSeriesOf (slotOf us e)) us) (apart-keep sameSeries (isSeriesOf (slotOf us e)) us (v .good .series));
+    distinct = own-distinct book (v .good) e;
   }
 
   sent-row : (e : Bytes) → Row (seriesOfLatest (latest e ms))
@@ -113,7 +109,7 @@ module _ (book : Bytes) (ms : List Bytes) (v : Invariant book ms) where
 
       mark-due : markFound (some x) ≡ plainMarkAnswer ms e id (partner x)
       unfolding plainMarkAnswer plainStoredAs plainMarkFound
-      mark-due = mark-found-given x ∙ ap markGiven (mark-plain book ms v slot x there series e whose) ∙ rw (sent .1, sent .3)
+      mark-due = mark-found-told x ∙ ap markTold (mark-plain book ms v slot x there series e whose) ∙ rw (sent .1, sent .3)
 
     mark-by : (o : Option Block) → storedAs us e id ≡ o → markFound o ≡ plainMarkAnswer ms e id ((markFound o) .partner .0)
     unfolding markFound plainMarkAnswer plainMarkFound

@@ -44,7 +44,7 @@ same-sender-no : (x y : Block) → isSender y ≡ false → sameSender x y ≡ f
 same-sender-no x y e = split (sameSender x y) (λ t. clash (same-sender-right x y t) e) (λ t. t)
 
 -- by a change that invents no sender and alters no EIC
-senders-map : (f : Block → Block) → ((e : Bytes) (b : Block) → isSenderBlockOf e (f b) ≡ isSenderBlockOf e b) → (l : List Block) → apart sameSender l ≡ true
+pub senders-map : (f : Block → Block) → ((e : Bytes) (b : Block) → isSenderBlockOf e (f b) ≡ isSenderBlockOf e b) → (l : List Block) → apart sameSender l ≡ true
     → apart sameSender (map f l) ≡ true
 senders-map f g l a =
     apart-map sameSender sameSender f (λ x. Unit {0}) (λ x y p q e. split (sameSender (f x) (f y))
@@ -89,7 +89,7 @@ id-or-pair-agree x y z w a b c d = rw (a, b, c, d)
 abbrev pub Kept : (Block → Block) → Block → Type 0
 Kept f x = isSeries (f x) ≡ true → (isSeries x ≡ true) × (sendersSlot (f x) ≡ sendersSlot x) × (idOf (f x) ≡ idOf x) × (pair (f x) ≡ pair x)
 
-series-map : (f : Block → Block) (l : List Block) → All (Kept f) l → apart sameSeries l ≡ true → apart sameSeries (map f l) ≡ true
+pub series-map : (f : Block → Block) (l : List Block) → All (Kept f) l → apart sameSeries l ≡ true → apart sameSeries (map f l) ≡ true
 series-map f l g a =
     apart-map sameSeries sameSeries f (Kept f) (λ x y p q e. split (sameSeries (f x) (f y))
     (λ t.

@@ -1,44 +1,31 @@
--- Soundness is kept by an acceptance, as to length, day block, checks and free slots: every block that is written is sealed, every other stays as it was.
-use Rattle.laws.specs.Base.{_≡_, refl, _∙_, true, false, List, ℕ, _/_, _≤_, arith, length, drop, drop-at}
+-- Soundness is kept by an acceptance, as to checks: every block that is written is sealed, every other stays as it was.
+use Rattle.laws.specs.Base.{_≡_, _∙_, true, false, List, ℕ, length}
 use Rattle.laws.specs.Tests.Laws.{split, clash}
 use Rattle.laws.specs.Lists.{All}
-use Rattle.laws.specs.Lists.Each.{all-both, all-append, all-drop, all-until, all-map}
+use Rattle.laws.specs.Lists.Each.{all-both, all-map}
 use Rattle.laws.specs.Bytes.Laws.{written-length}
 use Rattle.paper.specs.Check.{checkRight}
-use Rattle.paper.specs.Layout.{Bytes, Block, blocks, nOf, sender, withMark, withNets}
-use Rattle.paper.specs.Book.{dayBlock, slots, isFree, used, isSeries, isSenderBlockOf, isSeriesOf}
+use Rattle.paper.specs.Layout.{Bytes, Block, nOf, sender, withMark, withNets}
+use Rattle.paper.specs.Book.{dayBlock, used, isSeries, isSenderBlockOf, isSeriesOf}
 use Rattle.paper.specs.Message.{headOf, seriesOf}
-use Rattle.paper.specs.Acceptance.{slotFor, senderKept, renewed, placed, touched, remarked, usedAfter, accepted}
+use Rattle.paper.specs.Acceptance.{slotFor, senderKept, renewed, placed, touched, remarked, usedAfter}
 use Rattle.facts.specs.Check.{sealed-right}
 use Rattle.facts.specs.Layout.{with-senders-slot-length}
-use Rattle.facts.specs.Book.{series-of-series, series-of-slot, blocks-book, used-lengths}
-use Rattle.facts.specs.Sound.{Sound}
+use Rattle.facts.specs.Book.{series-of-series, series-of-slot, used-lengths}
 use Rattle.facts.specs.Verdict.{Accepts}
 use Rattle.facts.specs.Remarking.{remarked-touched, remarked-untouched}
 use Rattle.facts.specs.Renewal.{Shape, shape, series-with-senders-slot, sender-kept-length, renewed-sender, renewed-other, series-renewed, renewed-keeps, renewed-length, adopted, by-origin}
 use Rattle.promises.specs.Laws.Marks.{own-touched}
 use Rattle.promises.specs.Laws.Parts.{afterOf}
-use Rattle.promises.specs.Laws.ReadBack.{free-from, after-most, used-accepted, slots-accepted, day-block-accepted, accepted-length}
-
--- ---- a book's checks
-
-pub book-long : (book : Bytes) → Sound book → 512 ≤ length book
-book-long book s = let j : 2 ≤ length book / 512 = s .least in omega arith
-
-pub checks-parted : (book : Bytes) → Sound book → (checkRight (dayBlock book) ≡ true) × All (λ x. checkRight x ≡ true) (slots book)
-checks-parted book s = rw (blocks-book book (book-long book s)) at (s .checks)
-
-pub checks-joined : (book : Bytes) → 512 ≤ length book → checkRight (dayBlock book) ≡ true → All (λ x. checkRight x ≡ true) (slots book) → All
-    (λ x. checkRight x ≡ true) (blocks book)
-checks-joined book h d s = rw (blocks-book book h) (d, s)
+use Rattle.promises.specs.Laws.Rewritten.{used-right}
 
 -- ---- what is written is sealed
 
-with-mark-right : (m : Bytes) (x : Block) → length x ≡ 512 → checkRight (withMark m x) ≡ true
+pub with-mark-right : (m : Bytes) (x : Block) → length x ≡ 512 → checkRight (withMark m x) ≡ true
 unfolding withMark
 with-mark-right m x e = sealed-right _ (written-length 104 m x ∙ e)
 
-with-nets-right : (v : Bytes) (s : Block) → length s ≡ 512 → checkRight (withNets v s) ≡ true
+pub with-nets-right : (v : Bytes) (s : Block) → length s ≡ 512 → checkRight (withNets v s) ≡ true
 unfolding withNets
 with-nets-right v s e = sealed-right _ (written-length 108 v s ∙ e)
 
@@ -84,26 +71,6 @@ module _ (us : List Block) (h : Block) (series : List Block) (c : Shape us h ser
 
 -- ---- of an accepted message
 
-module _ (book message : Bytes) (a : Accepts book message) where
-  used-right : All (λ x. checkRight x ≡ true) (used book)
-  unfolding used
-  used-right = all-until (λ x. checkRight x ≡ true) isFree (slots book) (checks-parted book (a .was) .1)
-
-  pub checks-kept : All (λ x. checkRight x ≡ true) (blocks (accepted book message))
-  checks-kept =
-      checks-joined (accepted book message) (rw (accepted-length book message a) (book-long book (a .was)))
-      (rw (day-block-accepted book message a) (checks-parted book (a .was) .0))
-      (rw (slots-accepted book message a)
-      (all-append (λ x. checkRight x ≡ true) (afterOf book message) (drop (length (afterOf book message)) (slots book))
-      (after-right (used book) (headOf message) (seriesOf message) (shape book message a) (nOf (dayBlock book)) (used-lengths book) used-right)
-      (all-drop (λ x. checkRight x ≡ true) (length (afterOf book message)) (slots book) (checks-parted book (a .was) .1))))
-
-  pub free-kept : All (λ x. isFree x ≡ true) (drop (length (used (accepted book message))) (slots (accepted book message)))
-  free-kept =
-      rw (
-        used-accepted book message a,
-        slots-accepted book message a,
-        drop-at (afterOf book message) (drop (length (afterOf book message)) (slots book))
-            (length (afterOf book message)) refl,
-      )
-      (free-from book (a .was) (length (afterOf book message)) (after-most book message a))
+pub checks-kept : (book message : Bytes) → Accepts book message → All (λ x. checkRight x ≡ true) (afterOf book message)
+checks-kept book message a =
+    after-right (used book) (headOf message) (seriesOf message) (shape book message a) (nOf (dayBlock book)) (used-lengths book) (used-right book (a .was))

@@ -7,7 +7,7 @@ use Rattle.laws.specs.Lists.{same, count, keep, total, All}
 use Rattle.laws.specs.Lists.Same.{same-yes}
 use Rattle.laws.specs.Lists.Each.{all-imply, all-both, all-map}
 use Rattle.laws.specs.Lists.Count.{count-keep, length-total}
-use Rattle.paper.specs.Layout.{Bytes, Block, nOf, seriesCount, sender, quantity, withSendersSlot}
+use Rattle.paper.specs.Layout.{Bytes, Block, nOf, seriesCount, sender, differing, quantity, withSendersSlot}
 use Rattle.paper.specs.Ranges.{countAllowed}
 use Rattle.paper.specs.Book.{dayBlock, used, isSender, isSeries, isSenderBlockOf, slotOf, isSeriesOf}
 use Rattle.paper.specs.Sound.{countSound, senderFields, senderDayAndNets, senderSound, seriesSound, usedSound}
@@ -130,23 +130,23 @@ module _ (book message : Bytes) (a : Accepts book message) where
 
 -- ---- every block
 
-used-sound-by : (d : Block) (l : List Block) (z : Block) → (isSender z or isSeries z) ≡ true → (isSender z ≡ true → senderSound d l z ≡ true) →
+pub used-sound-by : (d : Block) (l : List Block) (z : Block) → (isSender z or isSeries z) ≡ true → (isSender z ≡ true → senderSound d l z ≡ true) →
     (isSeries z ≡ true → seriesSound d l z ≡ true) → usedSound d l z ≡ true
 unfolding usedSound
 used-sound-by d l z k f g = split (isSender z) (λ t. rw t (f t)) (λ t. let s : isSeries z ≡ true = or-else _ _ k t in rw t (and-both _ _ s (g s)))
 
 pub each-kept : (book message : Bytes) → Accepts book message → All (λ z. usedSound (dayBlock book) (afterOf book message) z ≡ true) (afterOf book message)
 each-kept book message a =
-    all-imply (λ z. ((isSender z or isSeries z) ≡ true) × ((isSender z ≡ true → senderSound d l z ≡ true) × (isSeries z ≡ true → seriesSound d l z ≡ true)))
-    (λ z. usedSound d l z ≡ true)
-    (λ z q. used-sound-by d l z (q .0) (q .1 .0) (q .1 .1)) l
-    (all-both (λ z. (isSender z or isSeries z) ≡ true) (λ z. (isSender z ≡ true → senderSound d l z ≡ true) × (isSeries z ≡ true → seriesSound d l z ≡ true)) l
-    (live-after book message a)
-    (all-both (λ z. isSender z ≡ true → senderSound d l z ≡ true) (λ z. isSeries z ≡ true → seriesSound d l z ≡ true) l (each-sender-kept book message a)
-    (each-series-kept book message a)))
+    all-imply (λ z. ((isSender z or isSeries z) ≡ true) × ((isSender z ≡ true → senderSound d l z ≡ true) × Series z)) (λ z. usedSound d l z ≡ true)
+    (λ z q. used-sound-by d l z (q .0) (q .1 .0) (λ s. q .1 .1 s .0)) l
+    (all-both (λ z. (isSender z or isSeries z) ≡ true) (λ z. (isSender z ≡ true → senderSound d l z ≡ true) × Series z) l (live-after book message a)
+    (all-both (λ z. isSender z ≡ true → senderSound d l z ≡ true) Series l (each-sender-kept book message a) (each-series-kept book message a)))
   where
     d : Block
     d = dayBlock book
 
     l : List Block
     l = afterOf book message
+
+    Series : Block → Type 0
+    Series z = isSeries z ≡ true → (seriesSound d l z ≡ true) × (differing z ≤ nOf d)

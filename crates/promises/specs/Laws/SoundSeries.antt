@@ -1,5 +1,5 @@
 -- Soundness is kept by an acceptance, as to every series: its fields are those of a stored series or of one that passed rules 7 to 15; its mark, if it is made
--- anew, has a state from 1 to 3 and names a series' slot; and its sender's slot holds its sender, for no sender moves.
+-- anew, has a count and a first of at most n and names a series' slot; and its sender's slot holds its sender, for no sender moves.
 use Rattle.laws.specs.Base.{_≡_, refl, sym, ap, _∙_, Bool, true, false, cond, Option, none, some, Option·getD, Option·map, List, [], _∷_, ℕ, zero, suc, _+_, _≤_, _<_, arith, length, take-all}
 use Rattle.laws.specs.Tests.{_or_, neg, is, upto}
 use Rattle.laws.specs.Tests.Laws.{split, clash, and-left, and-right, and-both, or-yes-left, or-yes-right, or-else, is-equal, upto-true, below-each, below-agree}
@@ -8,18 +8,19 @@ use Rattle.laws.specs.Lists.Each.{all-imply, all-both, all-keep, all-kept, all-
 use Rattle.laws.specs.Lists.Search.{find-has, place-length}
 use Rattle.laws.specs.Bytes.{part, value, little, number}
 use Rattle.laws.specs.Bytes.Laws.{little-length, value-little, number-1}
-use Rattle.paper.specs.Layout.{Bytes, Block, nOf, version, sender, sendersSlot, pair, mark, state, first, partner, quantities, entry, quantity, withSendersSlot, withMark}
+use Rattle.paper.specs.Layout.{Bytes, Block, nOf, version, sender, sendersSlot, pair, mark, differing, first, partner, quantities, entry, quantity, withSendersSlot, withMark}
 use Rattle.paper.specs.Ranges.{versionAllowed, quantityAllowed, quantitiesAllowed}
 use Rattle.paper.specs.Book.{dayBlock, used, isSeries, numbered, isSenderBlockOf, slotOf, isSeriesOf, ownSeries, pairIs}
-use Rattle.paper.specs.Sound.{partiesOf, ownerSound, partnerSound, seriesFields, seriesCodes, seriesValues, seriesSound, usedSound}
+use Rattle.paper.specs.Sound.{partiesOf, ownerSound, partnerSound, seriesFields, seriesCodes, seriesValues, seriesSound, usedSound, differingSound, differingAllowed}
 use Rattle.paper.specs.Message.{headOf, seriesOf}
 use Rattle.paper.specs.Rules.{seriesVersion, storedOf}
-use Rattle.paper.specs.Marks.{isCounterpart, counterpart, counterpartSlot, differenceFrom, firstDifference, markOf, markIn}
+use Rattle.paper.specs.Marks.{isCounterpart, counterpart, counterpartSlot, differenceFrom, firstDifference, differences, markOf, markIn}
 use Rattle.paper.specs.Acceptance.{senderKept, touched, usedAfter}
-use Rattle.facts.specs.Layout.{with-senders-slot-length, mark-with-mark, pair-with-senders-slot, Alike, alike-senders-slot, alike-n, alike-version, alike-business-type, alike-contract-type, alike-id, alike-in-area, alike-out-area, alike-in-party, alike-out-party, alike-agreement, alike-quantity, alike-above, mark-state, mark-first, mark-partner, zeros-above}
+use Rattle.facts.specs.Layout.{with-senders-slot-length, mark-with-mark, pair-with-senders-slot, Alike, alike-senders-slot, alike-n, alike-version, alike-business-type, alike-contract-type, alike-id, alike-in-area, alike-out-area, alike-in-party, alike-out-party, alike-agreement, alike-quantity, alike-above, mark-differing, mark-first, mark-partner, zeros-above}
 use Rattle.facts.specs.Book.{no-block-series, sender-block-sender, sender-block-eic, series-of-series, series-of-slot, numbered-place, used-lengths}
-use Rattle.facts.specs.Sound.{day-n, used-series}
+use Rattle.facts.specs.Sound.{day-n, used-series, count-most, count-allowed}
 use Rattle.facts.specs.Verdict.{Line, Accepts}
+use Rattle.facts.specs.Marks.{differences-most}
 use Rattle.facts.specs.Pairs.{counterpart-series}
 use Rattle.facts.specs.Remarking.{remarked-touched, remarked-untouched, alike-remarked, series-remarked, senders-slot-remarked, pair-remarked}
 use Rattle.facts.specs.Renewal.{Shape, shape, series-with-senders-slot, sender-kept-no-series, by-renewed, series-renewed, renewed-keeps, renewed-length, renewed-others-series, adopted, by-origin}
@@ -35,9 +36,8 @@ pub record Fields (d x : Block) : Type 0 where
   pub entries : quantitiesAllowed (nOf d) x ≡ true
 
 -- its mark
-record Marked (d : Block) (l : List Block) (x : Block) : Type 0 where
-  pub some-state : upto 1 (state x) ≡ true
-  pub small-state : upto (state x) 3 ≡ true
+pub record Marked (d : Block) (l : List Block) (x : Block) : Type 0 where
+  pub small-count : differing x ≤ nOf d
   pub small-first : upto (first x) (nOf d) ≡ true
   pub partner-series : partnerSound l x ≡ true
 
@@ -48,32 +48,24 @@ module _ (d : Block) (us : List Block) (x : Block) where
       let y = and-left _ _ (and-left _ _ e) in
       record { fields = and-left _ _ (and-left _ _ y); codes = and-right _ _ (and-left _ _ y); entries = and-right _ _ (and-right _ _ y) }
 
-  marked-of : seriesSound d us x ≡ true → Marked d us x
+  marked-of : seriesSound d us x ≡ true → differing x ≤ nOf d → Marked d us x
   unfolding seriesSound seriesValues
-  marked-of e =
-      let y = and-left _ _ (and-right _ _ (and-left _ _ (and-left _ _ e))) in
-      record {
-        some-state = and-left _ _ (and-left _ _ y);
-        small-state = and-right _ _ (and-left _ _ y);
-        small-first = and-right _ _ y;
-        partner-series = and-right _ _ e;
-      }
+  marked-of e h = record { small-count = h; small-first = and-left _ _ (and-right _ _ (and-left _ _ (and-left _ _ e))); partner-series = and-right _ _ e }
 
-  owner-of : seriesSound d us x ≡ true → ownerSound us x ≡ true
+  pub owner-of : seriesSound d us x ≡ true → ownerSound us x ≡ true
   unfolding seriesSound
   owner-of e = and-right _ _ (and-left _ _ e)
 
-  series-sound : Fields d x → Marked d us x → ownerSound us x ≡ true → seriesSound d us x ≡ true
+  pub series-sound : Fields d x → Marked d us x → ownerSound us x ≡ true → seriesSound d us x ≡ true
   unfolding seriesSound seriesValues
   series-sound f k o =
-      and-both _ _ (and-both _ _ (and-both _ _ (and-both _ _ (f .fields) (f .codes))
-      (and-both _ _ (and-both _ _ (and-both _ _ (k .some-state) (k .small-state)) (k .small-first)) (f .entries))) o) (k .partner-series)
+      and-both _ _ (and-both _ _ (and-both _ _ (and-both _ _ (f .fields) (f .codes)) (and-both _ _ (k .small-first) (f .entries))) o) (k .partner-series)
 
 fields-version : (d x : Block) → Fields d x → versionAllowed (version x) ≡ true
 unfolding seriesFields
 fields-version d x f = and-right _ _ (and-left _ _ (and-left _ _ (and-left _ _ (f .fields))))
 
-fields-alike : (d x y : Block) → nOf d ≤ 100 → Alike x y → Fields d y → Fields d x
+pub fields-alike : (d x y : Block) → nOf d ≤ 100 → Alike x y → Fields d y → Fields d x
 unfolding seriesFields seriesCodes quantitiesAllowed
 fields-alike d x y h a f = record {
   fields = rw (alike-n x y a, alike-version x y a, alike-business-type x y a, alike-contract-type x y a, alike-id x y a) (f .fields);
@@ -122,24 +114,20 @@ unfolding differenceFrom
 difference-small zero k a b = omega arith
 difference-small (suc f) k a b = split (is (entry a k) (entry b k)) (λ t. rw t (omega (arith, difference-small f (k + 1) a b))) (λ t. rw t (omega arith))
 
-two-or-three : (t : Bool) → (2 ≤ cond t 2 3) × (cond t 2 3 ≤ 3)
-two-or-three true = (omega arith, omega arith)
-two-or-three false = (omega arith, omega arith)
-
 -- a mark of four bytes, written over a block
-module _ (d : Block) (l : List Block) (x : Block) (whole : length x ≡ 512) (s f : ℕ) (r : Bytes) (two : length r ≡ 2) where
-  marked-by : 1 ≤ s → s ≤ 3 → f ≤ nOf d → partnerSound l (withMark (s ∷ f ∷ r) x) ≡ true → Marked d l (withMark (s ∷ f ∷ r) x)
-  marked-by a b c p =
-      let m : mark (withMark (s ∷ f ∷ r) x) ≡ s ∷ f ∷ r = mark-with-mark (s ∷ f ∷ r) x (omega arith) whole in
-      let st : state (withMark (s ∷ f ∷ r) x) ≡ s = mark-state _ ∙ ap (number 1 0) m ∙ number-1 0 (s ∷ f ∷ r) in
-      let fs : first (withMark (s ∷ f ∷ r) x) ≡ f = mark-first _ ∙ ap (number 1 1) m ∙ number-1 1 (s ∷ f ∷ r) in
-      record { some-state = upto-true _ _ (omega arith); small-state = upto-true _ _ (omega arith); small-first = upto-true _ _ (omega arith); partner-series = p }
+module _ (d : Block) (l : List Block) (x : Block) (whole : length x ≡ 512) (c f : ℕ) (r : Bytes) (two : length r ≡ 2) where
+  marked-by : c ≤ nOf d → f ≤ nOf d → partnerSound l (withMark (c ∷ f ∷ r) x) ≡ true → Marked d l (withMark (c ∷ f ∷ r) x)
+  marked-by h g p =
+      let m : mark (withMark (c ∷ f ∷ r) x) ≡ c ∷ f ∷ r = mark-with-mark (c ∷ f ∷ r) x (omega arith) whole in
+      let cs : differing (withMark (c ∷ f ∷ r) x) ≡ c = mark-differing _ ∙ ap (number 1 0) m ∙ number-1 0 (c ∷ f ∷ r) in
+      let fs : first (withMark (c ∷ f ∷ r) x) ≡ f = mark-first _ ∙ ap (number 1 1) m ∙ number-1 1 (c ∷ f ∷ r) in
+      record { small-count = omega arith; small-first = upto-true _ _ (omega arith); partner-series = p }
 
-  partner-by : partner (withMark (s ∷ f ∷ r) x) ≡ number 2 2 (s ∷ f ∷ r)
-  partner-by = mark-partner _ ∙ ap (number 2 2) (mark-with-mark (s ∷ f ∷ r) x (omega arith) whole)
+  partner-by : partner (withMark (c ∷ f ∷ r) x) ≡ number 2 2 (c ∷ f ∷ r)
+  partner-by = mark-partner _ ∙ ap (number 2 2) (mark-with-mark (c ∷ f ∷ r) x (omega arith) whole)
 
 -- in a list l whose series m keeps in their slots
-marked-in : (d : Block) (l m : List Block) (x : Block) → length x ≡ 512 → length l < 65536 → ((i : ℕ) → isSeries (numbered l i) ≡ true → isSeries
+pub marked-in : (d : Block) (l m : List Block) (x : Block) → length x ≡ 512 → length l < 65536 → ((i : ℕ) → isSeries (numbered l i) ≡ true → isSeries
     (numbered m i) ≡ true) → Marked d m (withMark (markIn (nOf d) l x) x)
 unfolding markIn counterpart counterpartSlot markOf firstDifference partnerSound little
 marked-in d l m x whole few g = by (find p l) refl
@@ -148,20 +136,20 @@ marked-in d l m x whole few g = by (find p l) refl
     p = isCounterpart (sendersSlot x) (pair x)
 
     by : (o : Option Block) → find p l ≡ o → Marked d m (withMark (markOf (nOf d) (quantities x) (Option·map quantities (find p l)) (place p l)) x)
-    by none e = rw e (marked-by d m x whole 1 0 (0 ∷ 0 ∷ []) refl (omega arith) (omega arith) (omega arith)
-        (or-yes-left _ _ (is-equal _ _ (partner-by d m x whole 1 0 (0 ∷ 0 ∷ []) refl ∙ partner-in 1 0 0 (omega arith)))))
+    by none e = rw e (marked-by d m x whole 0 0 (0 ∷ 0 ∷ []) refl (omega arith) (omega arith)
+        (or-yes-left _ _ (is-equal _ _ (partner-by d m x whole 0 0 (0 ∷ 0 ∷ []) refl ∙ partner-in 0 0 0 (omega arith)))))
     by (some y) e =
-        let q = difference-small (nOf d) 0 (quantities x) (quantities y) in
-        let t = two-or-three (is (differenceFrom (nOf d) 0 (quantities x) (quantities y)) 0) in
-        let k : partner (withMark (cond (is (differenceFrom (nOf d) 0 (quantities x) (quantities y)) 0) 2 3 ∷ differenceFrom (nOf d) 0 (quantities x)
-        (quantities y) ∷ little 2 (place p l)) x) ≡ place p l =
-        partner-by d m x whole _ _ (little 2 (place p l)) (little-length 2 (place p l)) ∙ partner-in _ _ (place p l) (omega (arith, place-length p l)) in
-        rw e (marked-by d m x whole _ _ (little 2 (place p l)) (little-length 2 (place p l)) (omega (arith, t .0)) (t .1) (omega arith)
+        let c : ℕ = differences (nOf d) (quantities x) (quantities y) in
+        let f : ℕ = differenceFrom (nOf d) 0 (quantities x) (quantities y) in
+        let k : partner (withMark (c ∷ f ∷ little 2 (place p l)) x) ≡ place p l =
+        partner-by d m x whole c f (little 2 (place p l)) (little-length 2 (place p l)) ∙ partner-in c f (place p l) (omega (arith, place-length p l)) in
+        rw e (marked-by d m x whole c f (little 2 (place p l)) (little-length 2 (place p l)) (differences-most (quantities x) (quantities y) (nOf d))
+        (omega (arith, difference-small (nOf d) 0 (quantities x) (quantities y)))
         (or-yes-right _ _ (rw k (g (place p l) (counterpart-series (sendersSlot x) (pair x) _ (numbered-place p l (find-has p l y e)))))))
 
 -- ---- of an accepted message
 
-owner-yes : (l : List Block) (e : Bytes) (i : ℕ) (x : Block) → sendersSlot x ≡ i → isSenderBlockOf e (numbered l i) ≡ true → partiesOf e (pair x) ≡ true
+pub owner-yes : (l : List Block) (e : Bytes) (i : ℕ) (x : Block) → sendersSlot x ≡ i → isSenderBlockOf e (numbered l i) ≡ true → partiesOf e (pair x) ≡ true
     → ownerSound l x ≡ true
 unfolding ownerSound
 owner-yes l e i x o t p = rw (o, sender-block-eic e (numbered l i) t) (and-both _ _ (sender-block-sender e _ t) p)
@@ -229,13 +217,7 @@ module _ (book message : Bytes) (a : Accepts book message) where
   partner-stored x e = split (is (partner x) 0) (λ t. or-yes-left _ _ t) (λ t. or-yes-right _ _ (series-stored book message a (partner x) (or-else _ _ e t)))
 
   mark-stays : (x : Block) → Marked d us x → Marked d after x
-  mark-stays x k = record {
-    some-state = k .some-state;
-    small-state = k .small-state;
-    small-first = k .small-first;
-    partner-series = partner-stored x
-        (k .partner-series);
-  }
+  mark-stays x k = record { small-count = k .small-count; small-first = k .small-first; partner-series = partner-stored x (k .partner-series) }
 
   mark-stored : (x : Block) → length x ≡ 512 → isSeries x ≡ true → Marked d us x → Marked d after (put (again x))
   mark-stored x l s k = split (touched slot now (again x)) (mark-touched (again x) (renewed-length us h series c x l)) left
@@ -255,27 +237,40 @@ module _ (book message : Bytes) (a : Accepts book message) where
   fields-put : (x : Block) → Fields d x → Fields d (put x)
   fields-put x f = fields-alike d (put x) x n-few (alike-remarked _ _ _ x) f
 
-  pub each-series-kept : All (λ z. isSeries z ≡ true → seriesSound (dayBlock book) (afterOf book message) z ≡ true) (afterOf book message)
+  sound-after : (z : Block) → Fields d z → Marked d after z → ownerSound after z ≡ true → (seriesSound d after z ≡ true) × (differing z ≤ nOf d)
+  sound-after z f k o = (series-sound d after z f k o, k .small-count)
+
+  pub each-series-kept : All (λ z. isSeries z ≡ true → (seriesSound (dayBlock book) (afterOf book message) z ≡ true) × (differing z ≤ nOf (dayBlock book)))
+      (afterOf book message)
   unfolding usedAfter
   each-series-kept =
-      all-map (λ z. isSeries z ≡ true → seriesSound d after z ≡ true) put now
-      (by-origin us h series c (λ z. isSeries (put z) ≡ true → seriesSound d after (put z) ≡ true) (λ x. (length x ≡ 512) × (usedSound d us x ≡ true))
+      all-map (λ z. isSeries z ≡ true → (seriesSound d after z ≡ true) × (differing z ≤ nOf d)) put now
+      (by-origin us h series c (λ z. isSeries (put z) ≡ true → (seriesSound d after (put z) ≡ true) × (differing (put z) ≤ nOf d))
+      (λ x. (length x ≡ 512) × ((usedSound d us x ≡ true) × (differingSound differingAllowed (nOf d) x ≡ true)))
       (Right d (sender h))
-      (all-both (λ x. length x ≡ 512) (λ x. usedSound d us x ≡ true) us (used-lengths book) (a .was .each)) series-right stored added young)
+      (all-both (λ x. length x ≡ 512) (λ x. (usedSound d us x ≡ true) × (differingSound differingAllowed (nOf d) x ≡ true)) us (used-lengths book)
+      (all-both (λ x. usedSound d us x ≡ true) (λ x. differingSound differingAllowed (nOf d) x ≡ true) us (a .was .each) (a .was .counts)))
+      series-right stored added young)
     where
-      stored : (x : Block) → (length x ≡ 512) × (usedSound d us x ≡ true) → isSeries (put (again x)) ≡ true → seriesSound d after (put (again x)) ≡ true
+      stored : (x : Block) → (length x ≡ 512) × ((usedSound d us x ≡ true) × (differingSound differingAllowed (nOf d) x ≡ true)) → isSeries (put (again x)) ≡ true
+          → (seriesSound d after (put (again x)) ≡ true) × (differing (put (again x)) ≤ nOf d)
       stored x q s =
           let r : isSeries x ≡ true = sym (series-renewed us h series c x) ∙ sym (series-remarked _ _ _ (again x)) ∙ s in
-          let k : seriesSound d us x ≡ true = used-series d us x (q .1) r in
-          series-sound d after (put (again x)) (fields-put (again x) (fields-stored x r (fields-of d us x k))) (mark-stored x (q .0) r (marked-of d us x k))
-          (owner-stored x r (owner-of d us x k))
+          let k : seriesSound d us x ≡ true = used-series d us x (q .1 .0) r in
+          sound-after (put (again x)) (fields-put (again x) (fields-stored x r (fields-of d us x k)))
+          (mark-stored x (q .0) r (marked-of d us x k (count-most (nOf d) x (q .1 .1) r))) (owner-stored x r (owner-of d us x k))
 
-      added : isSeries (put (senderKept h series)) ≡ true → seriesSound d after (put (senderKept h series)) ≡ true
+      added : isSeries (put (senderKept h series)) ≡ true → (seriesSound d after (put (senderKept h series)) ≡ true) × (differing (put (senderKept h series)) ≤ nOf d)
       added s = clash (sym (series-remarked _ _ _ (senderKept h series)) ∙ s) (sender-kept-no-series us h series c)
 
-      young : (y : Block) → Right d (sender h) y → isSeries (put (withSendersSlot slot y)) ≡ true → seriesSound d after (put (withSendersSlot slot y)) ≡ true
+      young : (y : Block) → Right d (sender h) y → isSeries (put (withSendersSlot slot y)) ≡ true
+          → (seriesSound d after (put (withSendersSlot slot y)) ≡ true) × (differing (put (withSendersSlot slot y)) ≤ nOf d)
       young y q s =
-          series-sound d after (put (withSendersSlot slot y)) (fields-put _ (fields-alike d _ y n-few (alike-senders-slot slot y) (q .fields)))
+          sound-after (put (withSendersSlot slot y)) (fields-put _ (fields-alike d _ y n-few (alike-senders-slot slot y) (q .fields)))
           (mark-touched (withSendersSlot slot y) (with-senders-slot-length slot y ∙ q .whole) (own-touched slot now (withSendersSlot slot y)
           (series-with-senders-slot slot y ∙ q .series) (adopted us h series c y (q .whole))))
           (owner-new y q)
+
+  pub counts-kept : All (λ z. differingSound differingAllowed (nOf (dayBlock book)) z ≡ true) (afterOf book message)
+  counts-kept = all-imply (λ z. isSeries z ≡ true → (seriesSound d after z ≡ true) × (differing z ≤ nOf d)) (λ z. differingSound differingAllowed (nOf d) z ≡ true)
+      (λ z f. count-allowed (nOf d) z (λ t. f t .1)) after each-series-kept

@@ -24,26 +24,21 @@ use Rattle.facts.specs.Book.{day-block-append, slots-append, free-right}
 use Rattle.facts.specs.Sound.{Sound, is-sound, day-block-length}
 use Rattle.facts.specs.Verdict.{Accepts, accepts}
 use Rattle.facts.specs.Calls.{Moves, moves, Opens, opens}
-use Rattle.promises.specs.Laws.ReadBack.{used-accepted, day-block-accepted, accepted-length}
-use Rattle.promises.specs.Laws.SoundBytes.{book-long, checks-parted, checks-joined, checks-kept, free-kept}
+use Rattle.promises.specs.Laws.Parts.{afterOf}
+use Rattle.promises.specs.Laws.Rewritten.{book-long, checks-parted, checks-joined, sound-rewritten}
+use Rattle.promises.specs.Laws.ReadBack.{rewrites}
+use Rattle.promises.specs.Laws.SoundBytes.{checks-kept}
 use Rattle.promises.specs.Laws.SoundApart.{senders-kept, series-kept}
+use Rattle.promises.specs.Laws.SoundSeries.{counts-kept}
 use Rattle.promises.specs.Laws.SoundSenders.{each-kept}
 use Rattle.promises.specs.Laws.Refusals.{submission-accepted}
 
 -- ---- an acceptance
 
 pub sound-accepted : (book message : Bytes) → Accepts book message → Sound (accepted book message)
-sound-accepted book message a = record {
-  whole = rw (accepted-length book message a) (a .was .whole);
-  least = rw (accepted-length book message a) (a .was .least);
-  most = rw (accepted-length book message a) (a .was .most);
-  checks = checks-kept book message a;
-  day = rw (day-block-accepted book message a) (a .was .day);
-  free = free-kept book message a;
-  each = rw (used-accepted book message a, day-block-accepted book message a) (each-kept book message a);
-  senders = rw (used-accepted book message a) (senders-kept book message a);
-  series = rw (used-accepted book message a) (series-kept book message a);
-}
+unfolding accepted
+sound-accepted book message a = sound-rewritten book (afterOf book message) (rewrites book message a) (checks-kept book message a) (each-kept book message a)
+    (senders-kept book message a) (series-kept book message a) (counts-kept book message a)
 
 -- ---- a clock move
 
@@ -113,6 +108,7 @@ module _ (book : Bytes) (minute : ℕ) (m : Moves book minute) where
     each = rw (day-block-moved, used-moved) each-moved;
     senders = rw used-moved (m .was .senders);
     series = rw used-moved (m .was .series);
+    counts = rw (ap nOf day-block-moved ∙ n-with-clock minute (dayBlock book), used-moved) (m .was .counts);
   }
 
 -- ---- an opening
@@ -164,6 +160,7 @@ module _ (book : Bytes) (o : Opening) (p : Opens book o) where
     each = rw used-opened tt;
     senders = rw used-opened;
     series = rw used-opened;
+    counts = rw used-opened tt;
   }
 
 -- ---- as tests

@@ -12,7 +12,7 @@ use Rattle.paper.specs.Check.{checkRight}
 use Rattle.paper.specs.Layout.{Bytes, zeros}
 use Rattle.paper.specs.Ranges.{wholeBlocks}
 use Rattle.paper.specs.Book.{dayBlock, slots, isFree, used}
-use Rattle.paper.specs.Sound.{daySound, usedFirst, sound}
+use Rattle.paper.specs.Sound.{daySound, usedFirst, soundOver}
 use Rattle.facts.specs.Book.{free-right}
 use Rattle.sound.specs.Used.{eachUsed, filledSound}
 use Rattle.laws.specs.Lists.Both.{every-join}
@@ -29,14 +29,14 @@ free-checks s w t = all-every _ _ (all-imply (λ x. isFree x ≡ true) (λ x. ch
 
 -- ---- the tests, in the code's order
 
-free-first : (c d u e s t : Bool) → (true and c and d and u and e and s and t) ≡ (u and (c and d and (e and s and t)))
+free-first : (c d u e s t g : Bool) → (true and c and d and u and e and s and t and g) ≡ (u and (c and d and (e and s and t and g)))
 unfolding _and_
-free-first true true true e s t = refl
-free-first true true false e s t = refl
-free-first true false true e s t = refl
-free-first true false false e s t = refl
-free-first false d true e s t = refl
-free-first false d false e s t = refl
+free-first true true true e s t g = refl
+free-first true true false e s t g = refl
+free-first true false true e s t g = refl
+free-first true false false e s t g = refl
+free-first false d true e s t g = refl
+free-first false d false e s t g = refl
 
 -- what follows a test counts only where the test holds
 where-first : (z x y d e : Bool) → (z ≡ true → x ≡ y) → (z and (x and d and e)) ≡ (z and (y and d and e))
@@ -46,18 +46,18 @@ where-first false x y d e f = refl
 
 -- ---- the day block and the used slots
 
-pub filled-split : (b : Bytes) → filledSound b ≡ (every checkRight (cut 512 b) and daySound (part 0 512 b) and eachUsed (part 0 512 b) (cut 512 (take (length b - 512) (drop 512 b))))
+pub filled-split : (allowed : ℕ → ℕ → Bool) (b : Bytes) → filledSound allowed b ≡ (every checkRight (cut 512 b) and daySound (part 0 512 b) and eachUsed allowed (part 0 512 b) (cut 512 (take (length b - 512) (drop 512 b))))
 unfolding filledSound
-filled-split b = rw (rest-slice 512 b)
+filled-split allowed b = rw (rest-slice 512 b)
 
 pub slots-few : (b : Bytes) → length b / 512 ≤ 1001 → length (take (length b - 512) (drop 512 b)) / 512 ≤ 1000
 slots-few b h = rw (rest-slice 512 b, length-drop 512 b) (omega arith)
 
 -- ---- the book
 
-pub not-whole : (b : Bytes) → wholeBlocks 2 1001 b ≡ false → sound b ≡ false
-unfolding sound _and_
-not-whole b e = rw e
+pub not-whole : (allowed : ℕ → ℕ → Bool) (b : Bytes) → wholeBlocks 2 1001 b ≡ false → soundOver allowed b ≡ false
+unfolding soundOver _and_
+not-whole allowed b e = rw e
 
 module _ (b : Bytes) (e : wholeBlocks 2 1001 b ≡ true) where
   blocks-whole : length b % 512 ≡ 0
@@ -103,12 +103,12 @@ module _ (b : Bytes) (e : wholeBlocks 2 1001 b ≡ true) where
       unfolding used slots
       us = rw (drop-take 512 (512 * many) b) (take-cut 512 (drop 512 b) many (omega (arith, count, until-length isFree (cut 512 (drop 512 b)), cut-length 512 (drop 512 b))) ∙ until-take isFree (cut 512 (drop 512 b)) many count)
 
-      in-order : sound b ≡ (zeros (drop (512 + 512 * many) b) and (every checkRight (cut 512 b) and daySound (part 0 512 b) and eachUsed (part 0 512 b) (used b)))
-      unfolding sound dayBlock eachUsed part
-      in-order = rw (e, ← first) (free-first _ _ _ _ _ _)
+      in-order : (allowed : ℕ → ℕ → Bool) → soundOver allowed b ≡ (zeros (drop (512 + 512 * many) b) and (every checkRight (cut 512 b) and daySound (part 0 512 b) and eachUsed allowed (part 0 512 b) (used b)))
+      unfolding soundOver dayBlock eachUsed part
+      in-order allowed = rw (e, ← first) (free-first _ _ _ _ _ _ _)
 
-      pub sound-split : sound b ≡ (zeros (take (length b - (512 + 512 * many)) (drop (512 + 512 * many) b)) and filledSound (take (512 + 512 * many) b))
+      pub sound-split : (allowed : ℕ → ℕ → Bool) → soundOver allowed b ≡ (zeros (take (length b - (512 + 512 * many)) (drop (512 + 512 * many) b)) and filledSound allowed (take (512 + 512 * many) b))
       unfolding filledSound
-      sound-split =
+      sound-split allowed =
           rw (rest-slice (512 + 512 * many) b, part-take 0 512 (512 + 512 * many) b (omega arith), us)
-          (in-order ∙ where-first (zeros (drop (512 + 512 * many) b)) _ _ _ _ checks-split)
+          (in-order allowed ∙ where-first (zeros (drop (512 + 512 * many) b)) _ _ _ _ checks-split)

@@ -14,20 +14,20 @@ use Rattle.sound.specs.Used.{usedFields}
 use Rattle.sound.specs.Links.{group, inGroup, Grouped}
 
 -- a series names a sender's slot, one of at most 1,000
-block-grouped : (d : Block) (us : List Block) (b : Block) → length us ≤ 1000 → usedFields d us b ≡ true → group b < 1024
+block-grouped : (allowed : ℕ → ℕ → Bool) (d : Block) (us : List Block) (b : Block) → length us ≤ 1000 → usedFields allowed d us b ≡ true → group b < 1024
 unfolding usedFields group seriesSound ownerSound
-block-grouped d us b h e =
+block-grouped allowed d us b h e =
     split (isSeries b)
     (λ t.
-    let q = and-right _ _ (rw (series-not-sender b t) at e) in
+    let q = and-right _ _ (and-left _ _ (rw (series-not-sender b t) at e)) in
     let i = numbered-inside us (sendersSlot b) isSender no-block-sender (and-left _ _ (and-right _ _ (and-left _ _ q))) in
     rw t (omega (arith, i .1)))
     (λ t. rw t (omega arith))
 
-pub fields-grouped : (d : Block) (s : Bytes) → length s / 512 ≤ 1000 → every (usedFields d (cut 512 s)) (cut 512 s) ≡ true → Grouped (cut 512 s)
+pub fields-grouped : (allowed : ℕ → ℕ → Bool) (d : Block) (s : Bytes) → length s / 512 ≤ 1000 → every (usedFields allowed d (cut 512 s)) (cut 512 s) ≡ true → Grouped (cut 512 s)
 unfolding Grouped
-fields-grouped d s h e =
-    all-imply (λ b. usedFields d (cut 512 s) b ≡ true) (λ b. group b < 1024) (λ b. block-grouped d (cut 512 s) b (rw (cut-length 512 s) h)) (cut 512 s) (every-all _ (cut 512 s) e)
+fields-grouped allowed d s h e =
+    all-imply (λ b. usedFields allowed d (cut 512 s) b ≡ true) (λ b. group b < 1024) (λ b. block-grouped allowed d (cut 512 s) b (rw (cut-length 512 s) h)) (cut 512 s) (every-all _ (cut 512 s) e)
 
 -- the group of block i, as it is found
 module _ (s : Bytes) (i : ℕ) {b : Block} {t : Bool} (e : b ≡ getD (cut 512 s) i []) (q : t ≡ isSeries b) where

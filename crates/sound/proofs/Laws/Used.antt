@@ -1,5 +1,5 @@
 -- The clauses on the used slots, in the code's order; a sender's count, by its own slot.
-use Rattle.laws.specs.Kit.{_≡_, refl, sym, ap, _∙_, Bool, true, false, List, [], ℕ, _+_, _/_, _<_, add-one, arith, length, getD, _and_, is, split, clash, and-left, and-right, and-both, and-true, and-no-right, or-left, is-other}
+use Rattle.laws.specs.Kit.{_≡_, refl, sym, ap, _∙_, Bool, true, false, List, [], ℕ, _+_, _/_, _<_, add-one, arith, length, getD, _and_, is, split, clash, and-left, and-right, and-both, and-true, and-no-right, and-assoc, _or_, or-left, neg, is-other}
 use Rattle.laws.specs.Lists.{every, apart, count}
 use Rattle.laws.specs.Lists.Same.{same-refl}
 use Rattle.laws.specs.Lists.Each.{all-each, every-agree}
@@ -7,10 +7,11 @@ use Rattle.laws.specs.Lists.Apart.{apart-place}
 use Rattle.laws.specs.Lists.Count.{count-agree}
 use Rattle.laws.specs.Cut.{cut}
 use Rattle.laws.specs.Cut.Laws.{cut-length}
-use Rattle.paper.specs.Layout.{Bytes, Block, seriesCount, sender}
+use Rattle.paper.specs.Layout.{Bytes, Block, nOf, seriesCount, sender}
 use Rattle.paper.specs.Ranges.{countAllowed}
 use Rattle.paper.specs.Book.{isSender, isSeries, isSenderBlockOf, slotOf, isSeriesOf}
-use Rattle.paper.specs.Sound.{senderSound, countSound, usedSound, sameSender, sameSeries}
+use Rattle.paper.specs.Sound.{senderSound, countSound, usedSound, sameSender, sameSeries, differingSound}
+use Rattle.facts.specs.Book.{sender-not-series}
 use Rattle.sound.specs.Used.{usedFields, countRight, clashes, linkedSound, eachUsed}
 use Rattle.sound.specs.Links.{group, inGroup}
 use Rattle.laws.specs.Lists.Both.{every-both, apart-either}
@@ -40,19 +41,28 @@ no-count l b t = rw t
 
 -- ---- the used slots
 
-used-split : (d : Block) (us : List Block) (b : Block) → usedSound d us b ≡ (usedFields d us b and countRight us b)
-unfolding usedSound usedFields countRight senderSound
-used-split d us b = split (isSender b) (λ t. rw t) (λ t. rw t (sym (and-true _)))
-
-counts-last : (f r s t : Bool) → (f and r and s and t) ≡ (f and (s and t and r))
+-- the last of three tests, made second
+last-second : (f m r : Bool) → (f and (m and r)) ≡ (f and r and m)
 unfolding _and_
-counts-last true true s t = sym (and-true (s and t))
-counts-last true false s t = sym (and-no-right (s and t) false refl)
-counts-last false r s t = refl
+last-second true m true = and-true m
+last-second true m false = and-no-right m false refl
+last-second false m r = refl
 
-pub each-used : (d : Block) (us : List Block) → eachUsed d us ≡ (every (usedFields d us) us and linkedSound us)
-unfolding eachUsed linkedSound clashes
-each-used d us =
-    ap (λ e. e and apart sameSender us and apart sameSeries us) (every-agree _ _ us (all-each (λ b. usedSound d us b ≡ (usedFields d us b and countRight us b)) (used-split d us) us) ∙ every-both (usedFields d us) (countRight us) us)
-    ∙ counts-last (every (usedFields d us) us) (every (countRight us) us) (apart sameSender us) (apart sameSeries us)
-    ∙ ap (λ e. every (usedFields d us) us and (e and every (countRight us) us)) (sym (apart-either sameSender sameSeries us))
+module _ (allowed : ℕ → ℕ → Bool) (d : Block) (us : List Block) where
+  used-split : (b : Block) → (usedSound d us b and differingSound allowed (nOf d) b) ≡ (usedFields allowed d us b and countRight us b)
+  unfolding usedSound differingSound usedFields countRight senderSound _and_ _or_ neg
+  used-split b =
+      split (isSender b) (λ t. rw (t, sender-not-series b t) (and-true _))
+      (λ t. split (isSeries b) (λ s. rw (t, s) (sym (and-true _))) (λ s. rw (t, s)))
+
+  every-split : (every (usedSound d us) us and every (differingSound allowed (nOf d)) us) ≡ (every (usedFields allowed d us) us and every (countRight us) us)
+  every-split =
+      sym (every-both _ _ us)
+      ∙ every-agree _ _ us (all-each (λ b. (usedSound d us b and differingSound allowed (nOf d) b) ≡ (usedFields allowed d us b and countRight us b)) used-split us)
+      ∙ every-both (usedFields allowed d us) (countRight us) us
+
+  pub each-used : eachUsed allowed d us ≡ (every (usedFields allowed d us) us and linkedSound us)
+  unfolding eachUsed linkedSound clashes
+  each-used =
+      rw (and-assoc (every (usedSound d us) us), and-assoc (every (usedSound d us) us), last-second (every (usedSound d us) us), every-split, apart-either sameSender sameSeries us)
+      (sym (last-second (every (usedFields allowed d us) us) _ _))

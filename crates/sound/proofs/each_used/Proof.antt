@@ -12,7 +12,7 @@ returns c = rw (each-used, denied (c .before .all-fields .ensures) (c .if1 .take
 linked-sound-requires : tie.Need-linked-sound-requires
 linked-sound-requires c κs =
     let p = c .before .before .before .before .pre in
-    (p .1, fields-grouped _ _ (p .1) (told (c .before .all-fields .ensures) (c .if1 .left)))
+    (p .1, fields-grouped _ _ _ (p .1) (told (c .before .all-fields .ensures) (c .if1 .left)))
 
 returns-2 : tie.Need-returns-2
 unfolding _and_

@@ -13,10 +13,10 @@ returns c =
 returns-2 : tie.Need-returns-2
 unfolding usedFields _and_
 returns-2 c =
-    let t = c .before .before in
-    rw (sym (t .before .is-sender .ensures) ∙ t .if1 .left) (simp (c .series-sound .ensures, c .before .is-series .ensures))
+    let t = c .before .before .before .before .before in
+    rw (sym (t .before .is-sender .ensures) ∙ t .if1 .left) (simp (c .differing-allowed .ensures, c .before .differing .ensures, c .before .before .n-of .ensures, c .before .before .before .series-sound .ensures, c .before .before .before .before .is-series .ensures))
 
 pub used-fields-spec : {M : Type 1} → statement M
 used-fields-spec =
     tie.close
-    (tie.spec (λ c κs. search needs) (λ c κs. search needs) (λ c κs. search needs) returns (λ c κs. search needs) (λ c κs. search needs) returns-2)
+    (tie.spec (λ c κs. search needs) (λ c κs. search needs) (λ c κs. search needs) returns (λ c κs. search needs) (λ c κs. search needs) (λ c κs. search needs) (λ c κs. search needs) (λ c κs. search needs) returns-2)

@@ -3,7 +3,7 @@ use Rattle.laws.specs.Kit.{arith, ap, length, now}
 use Rattle.laws.specs.Cut.{cut}
 use Rattle.laws.specs.Cut.Laws.{cut-length}
 use Rattle.paper.specs.Layout.{withSendersSlot}
-use Rattle.accept.proofs.Laws.Lent.{cut-lent}
+use Rattle.slots.proofs.Laws.Lent.{cut-lent}
 use Rattle.accept.proofs.Laws.Laying.{laid-none, laid-one}
 use Rattle.accept.proofs.Laws.Adding.{added-yes, added-no}
 use Rattle.accept.proofs.adding.add_if_new.Statement.{statement}

@@ -3,7 +3,7 @@ use Rattle.laws.specs.Kit.{arith, ap, length, now}
 use Rattle.laws.specs.Cut.{cut}
 use Rattle.laws.specs.Cut.Laws.{cut-length}
 use Rattle.paper.specs.Acceptance.{senderKept}
-use Rattle.accept.proofs.Laws.Lent.{cut-lent}
+use Rattle.slots.proofs.Laws.Lent.{cut-lent}
 use Rattle.accept.proofs.Laws.Laying.{laid-none, laid-one}
 use Rattle.accept.proofs.Laws.Adding.{sender-new, sender-known}
 use Rattle.accept.proofs.adding.add_sender.Statement.{statement}

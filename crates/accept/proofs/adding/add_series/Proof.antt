@@ -3,7 +3,7 @@ use Rattle.laws.specs.Kit.{arith, ap, _∙_, _≡_, _≤_, _-_, _/_, length, no
 use Rattle.laws.specs.Cut.{cut}
 use Rattle.laws.specs.Cut.Laws.{cut-length}
 use Rattle.accept.specs.Steps.{Laid, addedTo}
-use Rattle.accept.proofs.Laws.Lent.{block-whole}
+use Rattle.slots.proofs.Laws.Lent.{block-whole}
 use Rattle.accept.proofs.Laws.Laying.{laid-none}
 use Rattle.accept.proofs.Laws.InTurn.{add-room, add-go}
 use Rattle.accept.proofs.adding.add_series.Statement.{statement}

@@ -4,7 +4,7 @@ use Rattle.laws.specs.Cut.{cut}
 use Rattle.paper.specs.Layout.{withMark}
 use Rattle.paper.specs.Marks.{markIn}
 use Rattle.accept.specs.Steps.{touchedBy}
-use Rattle.accept.proofs.Laws.Lent.{cut-lent}
+use Rattle.slots.proofs.Laws.Lent.{cut-lent}
 use Rattle.accept.proofs.Laws.Marking.{remarked-yes, remarked-no}
 use Rattle.accept.proofs.remarking.remark.Statement.{statement}
 use Rattle.accept.proofs.remarking.remark.Tie as tie

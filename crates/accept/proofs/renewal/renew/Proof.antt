@@ -4,7 +4,7 @@ use Rattle.laws.specs.Lists.Search.{place-within}
 use Rattle.laws.specs.Cut.{cut}
 use Rattle.laws.specs.Cut.Laws.{cut-length}
 use Rattle.paper.specs.Layout.{withSendersSlot}
-use Rattle.accept.proofs.Laws.Lent.{block-whole}
+use Rattle.slots.proofs.Laws.Lent.{block-whole}
 use Rattle.accept.proofs.Laws.Renewing.{renewed-sender, renewed-other, renewed-absent, renewed-series}
 use Rattle.accept.proofs.renewal.renew.Statement.{statement}
 use Rattle.accept.proofs.renewal.renew.Tie as tie

@@ -5,7 +5,7 @@ use Rattle.laws.specs.Cut.Laws.{cut-length}
 use Rattle.laws.specs.InPlace.{done, done-none, done-more-alone, done-all}
 use Rattle.paper.specs.Acceptance.{renewed}
 use Rattle.slots.proofs.Laws.{block-some}
-use Rattle.accept.proofs.Laws.Lent.{cut-lent}
+use Rattle.slots.proofs.Laws.Lent.{cut-lent}
 use Rattle.accept.proofs.Laws.Renewing.{number-of}
 use Rattle.accept.proofs.renewal.renew_all.Statement.{statement}
 use Rattle.accept.proofs.renewal.renew_all.Tie as tie

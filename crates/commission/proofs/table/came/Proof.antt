@@ -38,10 +38,14 @@ unfolding came bookAfter is
 returns-8 c = rw (c .before .match .keys8) (ap (λ (q : QuantityRead). q .number) (c .quantity-read .ensures), refl)
 
 returns-9 : tie.Need-returns-9
+unfolding came bookAfter is
+returns-9 c = let o = c .before .before in rw (o .before .before .match .keys9) (o .convert .ensures)
+
+returns-10 : tie.Need-returns-10
 unfolding came bookAfter
-returns-9 c =
+returns-10 c =
     let n = c .before .match .rest in
-    rw (is-other _ 1 (n .0 .0 .0 .0 .0 .0 .0 .1), is-other _ 2 (n .0 .0 .0 .0 .0 .0 .1), is-other _ 3 (n .0 .0 .0 .0 .0 .1), is-other _ 5 (n .0 .0 .0 .0 .1), is-other _ 6 (n .0 .0 .0 .1), is-other _ 9 (n .0 .0 .1), is-other _ 10 (n .0 .1), is-other _ 11 (n .1)) (c .check .ensures, refl)
+    rw (is-other _ 1 (n .0 .0 .0 .0 .0 .0 .0 .0 .1), is-other _ 2 (n .0 .0 .0 .0 .0 .0 .0 .1), is-other _ 3 (n .0 .0 .0 .0 .0 .0 .1), is-other _ 5 (n .0 .0 .0 .0 .0 .1), is-other _ 6 (n .0 .0 .0 .0 .1), is-other _ 9 (n .0 .0 .0 .1), is-other _ 10 (n .0 .0 .1), is-other _ 11 (n .0 .1), is-other _ 13 (n .1)) (c .check .ensures, refl)
 
 pub came-spec : {M : Type 1} → statement M
-came-spec = tie.close (tie.spec (λ c κs. tt) (λ c κs. tt) (λ c κs. tt) (λ c κs. tt) (λ c κs. tt) (λ c κs. tt) (λ c κs. tt) (search needs) (λ c κs. tt) (λ c κs. tt) (search needs) returns (search needs) returns-2 (search needs) returns-3 (search needs) returns-4 (search needs) returns-5 (search needs) returns-6 returns-7 returns-8 returns-9)
+came-spec = tie.close (tie.spec (λ c κs. tt) (λ c κs. tt) (λ c κs. tt) (λ c κs. tt) (λ c κs. tt) (λ c κs. tt) (λ c κs. tt) (search needs) (λ c κs. tt) (λ c κs. tt) (λ c κs. tt) (search needs) returns (search needs) returns-2 (search needs) returns-3 (search needs) returns-4 (search needs) returns-5 (search needs) returns-6 returns-7 returns-8 (search needs) returns-9 returns-10)

@@ -16,5 +16,9 @@ returns-3 : tie.Need-returns-3
 unfolding changeNumber changeLine changed
 returns-3 c = rw (c .before .before .before .before .before .before .before .enum-told .given .1) (c .before .before .before .before .submit-told .ensures)
 
+returns-4 : tie.Need-returns-4
+unfolding changeNumber changeLine changed
+returns-4 c = rw (c .before .before .before .before .before .before .before .enum-told2 .given .1) (c .before .before .before .before .convert-told .ensures)
+
 pub change-spec : {M : Type 1} → statement M
-change-spec = tie.close (tie.spec (search needs) (search needs) (search needs) (search needs) (search needs) (search needs) (search needs) (search needs) returns (search needs) (search needs) returns-2 (search needs) (search needs) returns-3)
+change-spec = tie.close (tie.spec (search needs) (search needs) (search needs) (search needs) (search needs) (search needs) (search needs) (search needs) (search needs) (search needs) returns (search needs) (search needs) returns-2 (search needs) (search needs) returns-3 (search needs) (search needs) returns-4)

@@ -17,14 +17,20 @@ returns-2 c =
     rw (k .before .before .before .match .keys2) (rw (k .before .number-2 .ensures) at (k .clock .ensures))
 
 returns-3 : tie.Need-returns-3
-unfolding dayNumbers dayAfter
+unfolding dayNumbers dayAfter is
 returns-3 c =
     let v = c .before .before in
-    let rest = v .before .before .match .rest in
-    rw (is-other _ _ (rest .0 .1), is-other _ _ (rest .1)) (v .submit .ensures)
+    rw (v .before .before .match .keys3) (v .submit .ensures)
+
+returns-4 : tie.Need-returns-4
+unfolding dayNumbers dayAfter
+returns-4 c =
+    let k = c .before .before in
+    let rest = k .before .before .match .rest in
+    rw (is-other _ _ (rest .0 .0 .1), is-other _ _ (rest .0 .1), is-other _ _ (rest .1)) (k .convert .ensures)
 
 pub numbers-spec : {M : Type 1} → statement M
 numbers-spec =
     tie.close
-    (tie.spec (λ c κs. tt) (λ c κs. tt) (λ c κs. tt) (λ c κs. tt) (λ c. omega arith) returns
-    (λ c. omega arith) returns-2 (λ c. omega arith) returns-3)
+    (tie.spec (λ c κs. tt) (λ c κs. tt) (λ c κs. tt) (λ c κs. tt) (λ c κs. tt) (λ c. omega arith) returns
+    (λ c. omega arith) returns-2 (λ c. omega arith) returns-3 (λ c. omega arith) returns-4)

@@ -10,19 +10,10 @@ returns c =
     simp (
       c .quantities-allowed .ensures,
       c .before .before .first .ensures,
-      c .before .before .before .state2 .ensures,
-      c .before .before .before .before .state .ensures,
-      c .before .before .before .before .before .n-of .ensures,
+      c .before .before .before .n-of .ensures,
     )
 
 pub series-values-spec : {M : Type 1} → statement M
 series-values-spec =
     tie.close
-    (tie.spec
-    (λ c κs. search needs)
-    (λ c. omega arith)
-    (λ c κs. search needs)
-    (λ c κs. search needs)
-    (λ c κs. search needs)
-    (λ c κs. search needs)
-    returns)
+    (tie.spec (λ c κs. search needs) (λ c. omega arith) (λ c κs. search needs) (λ c κs. search needs) returns)
