@@ -20,6 +20,7 @@ pub const N: usize = 1;
 pub const LEAD: usize = 2;
 pub const VERSION: usize = 2;
 pub const CLOCK: usize = 4;
+pub const RULE: usize = 6;
 pub const COUNT: usize = 4;
 pub const BUSINESS_TYPE: usize = 4;
 pub const CONTRACT_TYPE: usize = 5;
@@ -41,6 +42,10 @@ pub const FIRST: usize = 105;
 pub const PARTNER: usize = 106;
 pub const VALUES: usize = 108;
 pub const CHECK: usize = 508;
+
+/// The rules of finals that byte 6 of a day block names: the seller's quantity, or the lesser of the two.
+pub const SELLERS_RULE: u8 = 0;
+pub const LESSER_RULE: u8 = 1;
 
 /// The length of a day in text, eight digits.
 pub const DAY_DIGITS: usize = 8;

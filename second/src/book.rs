@@ -39,6 +39,11 @@ impl<'book> SoundBook<'book> {
         Minute(u16_at(self.day(), CLOCK))
     }
 
+    /// By which rule the book's finals are given.
+    pub fn rule(&self) -> u8 {
+        self.day()[RULE]
+    }
+
     pub fn block(&self, slot: Slot) -> &'book Block {
         block_at(self.bytes, usize::from(slot.0))
     }

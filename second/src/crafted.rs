@@ -71,6 +71,7 @@ fn day_block(random: &mut Random, pool: &[Field]) -> Block {
         _ => random.between(8_600, usize::from(LATEST_MINUTE)) as u16,
     };
     put_u16(&mut day, CLOCK, clock);
+    day[RULE] = random.pick(&[SELLERS_RULE, LESSER_RULE]);
     day[DAY_IN_DAY_BLOCK..DAY_IN_DAY_BLOCK + DAY_DIGITS].copy_from_slice(&names::day(random));
     put_field(&mut day, AREA, &random.pick(pool));
     put_field(&mut day, RECEIVER, &random.pick(pool));

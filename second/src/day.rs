@@ -4,7 +4,7 @@ use crate::block::*;
 use crate::book::SoundBook;
 use crate::counts::{Minute, LATEST_MINUTE, LONGEST_LEAD};
 use crate::identifier::wrong_character;
-use crate::sound::{is_day, length_is_right, NS};
+use crate::sound::{is_day, is_rule, length_is_right, NS};
 
 pub const NOT_SOUND: u8 = 1;
 pub const WRONG_LENGTH: u8 = 20;
@@ -19,11 +19,16 @@ pub struct DayState {
     pub clock: Minute,
 }
 
-/// Opens a book: a fresh day block at the earliest minute, and nothing in any slot. What the
-/// buffer held before is not looked at. A refused opening writes nothing. Beside its number the call
-/// tells a wrong character: on 21 the area's and, where the area is good, the receiver's, whatever
-/// else is wrong.
+/// Opens a book whose finals are given by the lesser value: an opening that names no rule.
 pub fn open(book: &mut [u8], n: u8, lead: u16, day: &[u8], area: &[u8], receiver: &[u8]) -> (u8, u8) {
+    open_by(book, n, lead, LESSER_RULE, day, area, receiver)
+}
+
+/// Opens a book: a fresh day block at the earliest minute, with the rule that is named, and nothing in any
+/// slot. What the buffer held before is not looked at. A refused opening writes nothing. Beside its number
+/// the call tells a wrong character: on 21 the area's and, where the area is good, the receiver's, whatever
+/// else is wrong.
+pub fn open_by(book: &mut [u8], n: u8, lead: u16, rule: u8, day: &[u8], area: &[u8], receiver: &[u8]) -> (u8, u8) {
     if !length_is_right(book.len()) {
         return (WRONG_LENGTH, 0);
     }
@@ -31,7 +36,7 @@ pub fn open(book: &mut [u8], n: u8, lead: u16, day: &[u8], area: &[u8], receiver
         0 => wrong_character(receiver),
         of_area => of_area,
     };
-    let lawful = NS.contains(&n) && lead <= LONGEST_LEAD && is_day(day) && character == 0;
+    let lawful = NS.contains(&n) && lead <= LONGEST_LEAD && is_rule(rule) && is_day(day) && character == 0;
     if !lawful {
         return (WRONG_PARAMETER, character);
     }
@@ -40,6 +45,7 @@ pub fn open(book: &mut [u8], n: u8, lead: u16, day: &[u8], area: &[u8], receiver
     block[KIND] = KIND_DAY;
     block[N] = n;
     put_u16(block, LEAD, lead);
+    block[RULE] = rule;
     // The clock stays 0, which is 10,080 minutes before the day's start.
     block[DAY_IN_DAY_BLOCK..DAY_IN_DAY_BLOCK + DAY_DIGITS].copy_from_slice(day);
     block[AREA..AREA + 16].copy_from_slice(area);

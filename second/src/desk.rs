@@ -13,7 +13,7 @@ use crate::message::{series_of_message, SeriesReader};
 use crate::quantity_text;
 use crate::readings;
 use crate::sound;
-use crate::stream::Record;
+use crate::stream::{Opening, Record};
 use crate::submission::{judge, submit, Verdict};
 
 /// What a record is answered with.
@@ -24,6 +24,7 @@ pub enum Reply {
     Book,
     Sum { length: usize, sum: u32 },
     Open { number: u8, character: u8 },
+    OpenBy { number: u8, character: u8 },
     Clock { number: u8, state: DayState },
     Submit(Verdict),
     Mark { number: u8, mark: Mark },
@@ -79,9 +80,13 @@ impl Desk {
             }
             Record::Book => Reply::Book,
             Record::Sum => Reply::Sum { length: self.book.len(), sum: block::check_after(0, &self.book) },
-            Record::Open { n, lead, day, area, receiver } => {
+            Record::Open(Opening { n, lead, day, area, receiver }) => {
                 let (number, character) = day::open(&mut self.book, *n, *lead, day, area, receiver);
                 Reply::Open { number, character }
+            }
+            Record::OpenBy { rule, opening: Opening { n, lead, day, area, receiver } } => {
+                let (number, character) = day::open_by(&mut self.book, *n, *lead, *rule, day, area, receiver);
+                Reply::OpenBy { number, character }
             }
             Record::Clock(minute) => {
                 let (number, state) = day::move_clock(&mut self.book, Minute(*minute));
@@ -158,6 +163,7 @@ impl Desk {
             }
             Reply::Sum { length, sum } => writeln!(out, "sum {length} {sum}"),
             Reply::Open { number, character } => writeln!(out, "open {number} {character}"),
+            Reply::OpenBy { number, character } => writeln!(out, "open_by {number} {character}"),
             Reply::Clock { number, state } => {
                 writeln!(out, "clock {number} {} {} {}", state.n, state.lead, state.clock.0)
             }
@@ -240,16 +246,21 @@ mod tests {
         assert_eq!(line(&mut desk, Record::Mark { sender: vec![], id: vec![] }), "mark 1 0 0 0\n");
         assert_eq!(line(&mut desk, Record::Listing), "listing 6e6f7420736f756e640a\n");
         assert_eq!(line(&mut desk, Record::Length(1_024)), "length 1024\n");
-        let open = |area: &[u8], receiver: &[u8]| Record::Open {
+        let opening = |area: &[u8], receiver: &[u8]| Opening {
             n: 96,
             lead: 45,
             day: b"20190131".to_vec(),
             area: area.to_vec(),
             receiver: receiver.to_vec(),
         };
-        assert_eq!(line(&mut desk, open(b"10YAT-APG------M", b"14XAT_APCS-----Q")), "open 21 16\n");
-        assert_eq!(line(&mut desk, open(b"10YAT-APG------L", b"14XAT_APCS-----Q")), "open 21 6\n");
-        assert_eq!(line(&mut desk, open(b"10YAT-APG------L", b"14XAT-APCS-----Q")), "open 0 0\n");
+        let (area, receiver) = (b"10YAT-APG------L", b"14XAT-APCS-----Q");
+        let open_by = |rule, receiver| Record::OpenBy { rule, opening: opening(area, receiver) };
+        assert_eq!(line(&mut desk, open_by(2, receiver)), "open_by 21 0\n");
+        assert_eq!(line(&mut desk, open_by(2, b"14XAT_APCS-----Q")), "open_by 21 6\n");
+        assert_eq!(line(&mut desk, open_by(0, receiver)), "open_by 0 0\n");
+        assert_eq!(line(&mut desk, Record::Open(opening(b"10YAT-APG------M", b"14XAT_APCS-----Q"))), "open 21 16\n");
+        assert_eq!(line(&mut desk, Record::Open(opening(area, b"14XAT_APCS-----Q"))), "open 21 6\n");
+        assert_eq!(line(&mut desk, Record::Open(opening(area, receiver))), "open 0 0\n");
         assert_eq!(line(&mut desk, Record::Clock(5)), "clock 0 96 45 5\n");
         assert_eq!(line(&mut desk, Record::Submit(vec![])), "submit 2 0 0 0 0\n");
         assert_eq!(line(&mut desk, Record::Judge(vec![])), "judge 2 0 0 0 0\n");

@@ -62,11 +62,14 @@ impl Difference {
         let more = wanted.checked_sub(closed.len())?;
         let mut open: Vec<u16> = (first_open..=n).collect();
         random.shuffle(&mut open);
-        if matches!(self, First) || random.percent(25) {
-            open.sort_by_key(|&position| position != 1);
-        } else if matches!(self, Last) || random.percent(25) {
-            open.sort_by_key(|&position| position != n);
-        }
+        // Where there are several, the first or the last is often among them.
+        let edge = match self {
+            First => Some(1),
+            Last => Some(n),
+            Between => None,
+            _ => random.pick(&[None, None, Some(1), Some(n)]),
+        };
+        open.sort_by_key(|&position| Some(position) != edge);
         let mut positions = closed.to_vec();
         positions.extend(open.get(..more)?);
         positions.sort_unstable();

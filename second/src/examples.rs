@@ -7,7 +7,7 @@ use crate::block::*;
 use crate::codes::reason_code;
 use crate::conversion::convert;
 use crate::counts::{Minute, Position, Slot, DAY_START};
-use crate::day::{move_clock, open, DayState};
+use crate::day::{move_clock, open, open_by, DayState};
 use crate::identifier::{is_valid_eic, wrong_character, VALUES as CHARACTER_VALUES};
 use crate::listing::listing;
 use crate::message::{series_of_message, SeriesReader};
@@ -50,6 +50,11 @@ pub const EXAMPLES: &[Example] = &[
     ("conversion", conversion),
     ("conversions that are refused", refused_conversions),
     ("a book converted in the midst of its day", converted_midway),
+    ("the rule of an opening", rules_of_openings),
+    ("the rule in a sound book", rules_in_sound_books),
+    ("the rule stays", rule_stays),
+    ("finals by both rules", finals_by_both_rules),
+    ("a late counterpart", late_counterparts),
 ];
 
 fn same<T: PartialEq + Debug>(what: &str, found: T, expected: T) -> Outcome {
@@ -111,6 +116,13 @@ fn message(sender: &Field, version: u16, n: u8, list: &[Block]) -> Vec<u8> {
 fn opened(blocks: usize, n: u8, lead: u16) -> Vec<u8> {
     let mut book = vec![0xAA; blocks * BLOCK_BYTES];
     assert_eq!(open(&mut book, n, lead, DAY_TEXT, AREA_CODE, RECEIVER_CODE), (0, 0));
+    book
+}
+
+/// A book of ten blocks whose finals are given by this rule.
+fn opened_by(rule: u8) -> Vec<u8> {
+    let mut book = vec![0xAA; 10 * BLOCK_BYTES];
+    assert_eq!(open_by(&mut book, 96, 45, rule, DAY_TEXT, AREA_CODE, RECEIVER_CODE), (0, 0));
     book
 }
 
@@ -390,8 +402,9 @@ fn clock_states() -> Outcome {
     same("not sound", move_clock(&mut book, Minute(11_580)), (1, zeros))
 }
 
+/// By the seller's rule, which books on file have.
 fn finals() -> Outcome {
-    let mut book = opened(10, 96, 45);
+    let mut book = opened_by(SELLERS_RULE);
     let sold = series("S", BUYER, SELLER, 1, 96, 45_000);
     let bought = series("B", BUYER, SELLER, 1, 96, 44_000);
     same("the buyer files", answer(submit(&mut book, &message(BUYER, 1, 96, &[bought]))), ACCEPTED)?;
@@ -689,6 +702,106 @@ fn converted_midway() -> Outcome {
     same("the conversion", convert(&mut late), 0)?;
     same("then the message", answer(submit(&mut late, &agreeing)), ACCEPTED)?;
     same("the marks", plain_run(&late), (0, true))
+}
+
+/// Document 02, C-17.
+fn rules_of_openings() -> Outcome {
+    same("no rule named", opened(2, 96, 45)[RULE], LESSER_RULE)?;
+    let foreign = &b"14_AT-APCS-----Q"[..];
+    for rule in 0..=255 {
+        let mut book = vec![0xAA; 2 * BLOCK_BYTES];
+        let before = book.clone();
+        let mut open = |length: usize, area: &[u8], receiver: &[u8]| {
+            open_by(&mut book[..length], 96, 45, rule, DAY_TEXT, area, receiver)
+        };
+        same("a wrong length comes first", open(512, AREA_CODE, foreign), (20, 0))?;
+        same("a wrong receiver", open(1_024, AREA_CODE, foreign), (21, 3))?;
+        same("a wrong area", open(1_024, &AREA_CODE[..7], foreign), (21, 8))?;
+        let expected = if rule <= 1 { (0, 0) } else { (21, 0) };
+        same(&format!("the rule {rule}"), open(1_024, AREA_CODE, RECEIVER_CODE), expected)?;
+        if rule <= 1 {
+            same("the byte", (book[RULE], book[7], is_sound(&book)), (rule, 0, true))?;
+        } else {
+            same("the buffer", book == before, true)?;
+        }
+    }
+    Ok(())
+}
+
+fn rules_in_sound_books() -> Outcome {
+    let book = book_of_two(96, &[(2, 44_000)])?;
+    for (at, byte, expected) in [(6, 0, true), (6, 1, true), (6, 2, false), (6, 255, false), (7, 1, false)] {
+        let mut other = book.clone();
+        other[at] = byte;
+        seal(block_at_mut(&mut other, 0));
+        same(&format!("byte {at} of {byte}"), is_sound(&other), expected)?;
+    }
+    Ok(())
+}
+
+fn rule_stays() -> Outcome {
+    for rule in [SELLERS_RULE, LESSER_RULE] {
+        let mut book = opened_by(rule);
+        same("clock", move_clock(&mut book, Minute(DAY_START)).0, 0)?;
+        same("after the clock", book[RULE], rule)?;
+        let sold = message(SELLER, 1, 96, &[series("S", BUYER, SELLER, 1, 96, 0)]);
+        same("the seller files", answer(submit(&mut book, &sold)), ACCEPTED)?;
+        same("after an acceptance", book[RULE], rule)?;
+        let mut old = with_byte_104(&book, 2, 1);
+        same("the conversion", (convert(&mut old), old == book), (0, true))?;
+    }
+    Ok(())
+}
+
+/// A book of this rule in which the sides filed these quantities, with position 5 closed.
+fn closed_book(rule: u8, sold: Option<u32>, bought: Option<u32>) -> Result<Vec<u8>, String> {
+    let mut book = opened_by(rule);
+    for (sender, id, value) in [(SELLER, "S", sold), (BUYER, "B", bought)] {
+        if let Some(value) = value {
+            let filed = message(sender, 1, 96, &[series(id, BUYER, SELLER, 1, 96, value)]);
+            same("filing", answer(submit(&mut book, &filed)), ACCEPTED)?;
+        }
+    }
+    same("clock", move_clock(&mut book, Minute(DAY_START + 16)).0, 0)?;
+    Ok(book)
+}
+
+fn finals_by_both_rules() -> Outcome {
+    for (sold, bought, by_seller, lesser) in [
+        (Some(45_000), Some(44_000), (0, 45_000), (0, 44_000)),
+        (Some(44_000), Some(45_000), (0, 44_000), (0, 44_000)),
+        (Some(45_000), Some(45_000), (0, 45_000), (0, 45_000)),
+        (Some(45_000), Some(0), (0, 45_000), (0, 0)),
+        (Some(45_000), None, (0, 45_000), (0, 0)),
+        (None, Some(45_000), (0, 0), (0, 0)),
+        (None, None, (26, 0), (26, 0)),
+    ] {
+        for (rule, expected) in [(SELLERS_RULE, by_seller), (LESSER_RULE, lesser)] {
+            let book = closed_book(rule, sold, bought)?;
+            let what = format!("rule {rule}, {sold:?} sold and {bought:?} bought");
+            same(&what, final_value(&book, SELLER, BUYER, Position(5)), expected)?;
+            same("not closed", final_value(&book, SELLER, BUYER, Position(6)), (25, 0))?;
+            same("no position", final_value(&book, SELLER, BUYER, Position(97)), (24, 0))?;
+            same("the other direction", final_value(&book, BUYER, SELLER, Position(5)), (26, 0))?;
+        }
+    }
+    Ok(())
+}
+
+/// A late counterpart files 0 at closed positions, so a final given before stays.
+fn late_counterparts() -> Outcome {
+    for rule in [SELLERS_RULE, LESSER_RULE] {
+        for (sender, sold, bought) in [(BUYER, Some(45_000), None), (SELLER, None, Some(45_000))] {
+            let mut book = closed_book(rule, sold, bought)?;
+            let given = final_value(&book, SELLER, BUYER, Position(5));
+            let mut late = series("L", BUYER, SELLER, 1, 96, 45_000);
+            same("late", answer(submit(&mut book, &message(sender, 1, 96, &[late]))), (14, 57, 1, 1))?;
+            (1..=5).for_each(|position| put_quantity(&mut late, Position(position), 0));
+            same("0 where closed", answer(submit(&mut book, &message(sender, 1, 96, &[late]))), ACCEPTED)?;
+            same("the final", final_value(&book, SELLER, BUYER, Position(5)), given)?;
+        }
+    }
+    Ok(())
 }
 
 #[cfg(test)]

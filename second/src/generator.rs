@@ -15,6 +15,7 @@ use crate::deck::Deck;
 use crate::desk::Desk;
 use crate::difference::Difference;
 use crate::draft::{Fault, FormFault, Side, WrongCode};
+use crate::final_case::FinalCase;
 use crate::identifier::LAST_CHARACTER;
 use crate::names;
 use crate::random::Random;
@@ -25,10 +26,11 @@ use crate::versions::VersionTurn;
 mod calls;
 mod conversions;
 mod episodes;
+mod finals;
 mod messages;
 
 use conversions::{ConversionTurn, Use};
-use episodes::WrongOpening;
+use episodes::{OpeningInVain, WrongRule};
 
 /// What is known of the book on which a call is made.
 #[derive(Clone, Copy, Debug, PartialEq, Eq)]
@@ -55,6 +57,12 @@ impl Queue {
 
     fn pop_front(&mut self) -> Option<(Record, Standing)> {
         self.records.pop_front()
+    }
+
+    /// The last of the records to come that asks for a final.
+    fn last_final(&self) -> Option<Record> {
+        let mut latest_first = self.records.iter().rev().map(|(record, _)| record);
+        latest_first.find(|record| matches!(record, Record::Final { .. })).cloned()
     }
 }
 
@@ -95,7 +103,7 @@ const WHOLE_CLIMB: u64 = 5;
 const BEYOND_CLIMB: usize = 4;
 
 /// Some faults find what they need only now and then, or are often hidden by others, so they come more often.
-const RARE_FAULTS: [Fault; 21] = [
+const RARE_FAULTS: [Fault; 26] = [
     Fault::Receiver,
     Fault::OtherMessageId,
     Fault::SeriesId,
@@ -108,9 +116,14 @@ const RARE_FAULTS: [Fault; 21] = [
     Fault::EqualParties,
     Fault::Strangers,
     Fault::AboveN,
+    Fault::AboveN,
+    Fault::AboveN,
     Fault::ClosedChanged,
     Fault::ClosedNew,
     Fault::SeriesVersionKept,
+    Fault::Absent,
+    Fault::Absent,
+    Fault::Absent,
     Fault::Absent,
     Fault::Absent,
     Fault::Absent,
@@ -133,18 +146,29 @@ const WRONG_CODES: [WrongCode; 6] = [
     WrongCode::BothParties,
 ];
 
+/// What is done with an old book before its conversion. A message that it takes is a turn of its own.
+const OLD_USES: [Use; 9] =
+    [Use::Mark, Use::Block, Use::Final, Use::Final, Use::Final, Use::Plain, Use::Listing, Use::Judge, Use::Clock];
+
+/// The ways to differ that no message comes to by chance.
+const RARE_WAYS_TO_DIFFER: [Difference; 4] =
+    [Difference::First, Difference::Last, Difference::AllButOne, Difference::All];
+
 /// In which ways two senders differ that answer each other, so that a conversion often passes and often does not.
 const SMALL_WAYS_TO_DIFFER: [Difference; 9] = [
     Difference::Nowhere,
     Difference::First,
+    Difference::First,
+    Difference::Last,
     Difference::Last,
     Difference::Between,
     Difference::Two,
-    Difference::Two,
-    Difference::Three,
     Difference::Three,
     Difference::Four,
 ];
+
+/// As many books go by the seller's rule as by the other, which an opening names or leaves unnamed.
+const RULES: [Option<u8>; 4] = [Some(SELLERS_RULE), Some(SELLERS_RULE), Some(LESSER_RULE), None];
 
 /// A book to be put back after some calls on a damaged one.
 struct Repair {
@@ -171,7 +195,15 @@ pub struct Generator {
     faults: Deck<Fault>,
     /// Whose code is to be wrong, and at which character.
     wrong_codes: Deck<(WrongCode, u8)>,
-    wrong_openings: Deck<(WrongOpening, u8)>,
+    /// Whether an opening names a rule, and at which character a code of it is to be wrong.
+    wrong_openings: Deck<(bool, u8)>,
+    wrong_rules: Deck<WrongRule>,
+    openings_in_vain: Deck<OpeningInVain>,
+    /// The rules of the books that are opened; an opening may name none.
+    rules: Deck<Option<u8>>,
+    /// Who filed what of a trade whose final is asked for, and which side files too late: for each rule.
+    final_cases: [Deck<FinalCase>; 2],
+    late_sides: [Deck<Side>; 2],
     wrong_texts: Deck<u8>,
     versions: Deck<VersionTurn>,
     conversions: Deck<ConversionTurn>,
@@ -234,15 +266,20 @@ impl Generator {
             forms: Deck::of(&[FormFault::ALL, &HIDDEN_FORMS].concat()),
             faults: Deck::of(&[Fault::ALL, &RARE_FAULTS].concat()),
             wrong_codes: Deck::of(&at_each_character(&WRONG_CODES)),
-            wrong_openings: Deck::of(&at_each_character(WrongOpening::ALL)),
+            wrong_openings: Deck::of(&at_each_character(&[false, true])),
+            wrong_rules: Deck::of(WrongRule::ALL),
+            openings_in_vain: Deck::of(OpeningInVain::ALL),
+            rules: Deck::of(&RULES),
+            final_cases: [SELLERS_RULE, LESSER_RULE].map(|_| Deck::of(FinalCase::ALL)),
+            late_sides: [SELLERS_RULE, LESSER_RULE].map(|_| Deck::of(&[Side::Buys, Side::Sells])),
             wrong_texts: Deck::of(&(1..=LAST_CHARACTER).collect::<Vec<u8>>()),
             versions: Deck::of(&VersionTurn::all()),
             conversions: Deck::of(&ConversionTurn::all()),
-            old_uses: Deck::of(&Use::ALL[..Use::ALL.len() - 1]),
+            old_uses: Deck::of(&OLD_USES),
             new_uses: Deck::of(Use::ALL),
-            ways_to_differ: NS.map(|_| Deck::of(Difference::ALL)),
-            ns: Deck::of(&NS),
+            ways_to_differ: NS.map(|_| Deck::of(&[Difference::ALL, &RARE_WAYS_TO_DIFFER].concat())),
             small_ways_to_differ: Deck::of(&SMALL_WAYS_TO_DIFFER),
+            ns: Deck::of(&NS),
             kept: Deck::of(Kept::ALL),
             numbers: Deck::of(&(0..=35).collect::<Vec<u8>>()),
             episode: Episode::Small,
@@ -303,7 +340,7 @@ impl Generator {
     }
 
     fn action(&mut self, book: &[u8]) {
-        match self.random.weighted(&[76, 12, 8, 7, 16, 4, 8, 4, 4, 30, 6, 4, 35, 4, 18, 12, 10, 9, 4]) {
+        match self.random.weighted(&[66, 12, 7, 6, 8, 4, 8, 4, 4, 29, 6, 12, 36, 4, 19, 13, 11, 9, 4, 4, 8]) {
             0 => self.submission(book),
             1 => self.clock(book),
             2 => self.mark_or_block(book, true),
@@ -322,7 +359,9 @@ impl Generator {
             15 => self.version(book),
             16 => self.conversion(book),
             17 => self.differences(book),
-            _ => self.false_book(book),
+            18 => self.false_book(book),
+            19 => self.finals(book),
+            _ => self.late_counterpart(book),
         }
     }
 
@@ -432,7 +471,7 @@ mod tests {
 
     #[test]
     fn calls_left_out_leave_their_changes_behind() {
-        let left_out = ["open", "submit", "sound", "convert"];
+        let left_out = ["open", "open_by", "submit", "sound", "convert"];
         let (mut whole, mut less) = (Vec::new(), Vec::new());
         write_stream(9, 4_000, &[], &mut whole).unwrap();
         write_stream(9, 1_000, &left_out, &mut less).unwrap();

@@ -6,9 +6,11 @@ use crate::block::*;
 use crate::breach::Breach;
 use crate::desk::Reply;
 use crate::difference::Difference;
+use crate::final_case::FinalCase;
 use crate::generator::Standing;
 use crate::message::{self, MessageClause};
 use crate::old_book::BadState;
+use crate::sights::rules::{rule_kept, Asked};
 use crate::sights::{marks, sights, Sight};
 use crate::sound::{self, Layout, SoundClause, NS};
 use crate::stream::Record;
@@ -18,6 +20,7 @@ use crate::versions::{kept_version, VersionCase};
 /// Every answer a call can give; none of them may be missing from a long run.
 const ANSWERS: &[(&str, &[u8])] = &[
     ("open", &[0, 20, 21]),
+    ("open_by", &[0, 20, 21]),
     ("clock", &[0, 1, 22]),
     ("submit", &[0, 1, 2, 3, 4, 5, 6, 7, 8, 9, 10, 11, 12, 13, 14, 15, 16, 17]),
     ("mark", &[0, 1, 23]),
@@ -34,6 +37,7 @@ const ANSWERS: &[(&str, &[u8])] = &[
 const CHARACTERS: &[(&str, &[u8])] = &[
     ("eic", &[0, 1, 2, 3, 4, 5, 6, 7, 8, 9, 10, 11, 12, 13, 14, 15, 16]),
     ("open 21, character", &[0, 1, 2, 3, 4, 5, 6, 7, 8, 9, 10, 11, 12, 13, 14, 15, 16]),
+    ("open_by 21, character", &[0, 1, 2, 3, 4, 5, 6, 7, 8, 9, 10, 11, 12, 13, 14, 15, 16]),
     ("submit 4, character", &[1, 2, 3, 4, 5, 6, 7, 8, 9, 10, 11, 12, 13, 14, 15, 16]),
     ("submit 8, character", &[0, 1, 2, 3, 4, 5, 6, 7, 8, 9, 10, 11, 12, 13, 14, 15, 16]),
     ("judge 4, character", &[1, 2, 3, 4, 5, 6, 7, 8, 9, 10, 11, 12, 13, 14, 15, 16]),
@@ -42,6 +46,9 @@ const CHARACTERS: &[(&str, &[u8])] = &[
 
 /// The calls that judge a version.
 const JUDGING: [&str; 2] = ["submit", "judge"];
+
+/// The rules of finals, by their number.
+const RULE_NAMES: [&str; 2] = ["the seller's rule", "the lesser value"];
 
 /// Whether the book was converted, and used since.
 #[derive(Clone, Copy, PartialEq, Eq)]
@@ -79,12 +86,16 @@ pub struct Histogram {
     bad_states: Vec<u64>,
     /// For each n the ways in which a series of an accepted message differs from its counterpart.
     differences: [Vec<u64>; 3],
+    /// For each rule who filed what of a trade whose final was asked for.
+    finals: [Vec<u64>; 2],
     sights: Vec<u64>,
     /// For each of the calls that judge a version.
     versions: [Vec<u64>; 2],
     /// Sender and version of the message that was refused last.
     refused: Option<(Field, u16)>,
     past: Past,
+    /// The final that was asked for last in this book.
+    asked: Option<Asked>,
 }
 
 impl Default for Histogram {
@@ -99,10 +110,12 @@ impl Default for Histogram {
             old_breaches: vec![0; Breach::ALL.len()],
             bad_states: vec![0; BadState::ALL.len()],
             differences: NS.map(|_| vec![0; Difference::ALL.len()]),
+            finals: RULE_NAMES.map(|_| vec![0; FinalCase::ALL.len()]),
             sights: vec![0; Sight::ALL.len()],
             versions: [vec![0; VersionCase::ALL.len()], vec![0; VersionCase::ALL.len()]],
             refused: None,
             past: Past::NotConverted,
+            asked: None,
         }
     }
 }
@@ -123,13 +136,11 @@ impl Histogram {
             self.saw(Sight::CountOfN);
         }
         self.conversion(record, reply, before, book, standing);
+        self.finals(record, reply, book);
+        rule_kept(reply, book).filter(|_| before != book).into_iter().for_each(|sight| self.saw(sight));
         match reply {
-            Reply::Open { number, character } => {
-                self.answer("open", *number, book);
-                if *number == 21 {
-                    self.character("open 21, character", *character);
-                }
-            }
+            Reply::Open { number, character } => self.opening("open", *number, *character, book),
+            Reply::OpenBy { number, character } => self.opening("open_by", *number, *character, book),
             Reply::Clock { number, .. } => self.answer("clock", *number, book),
             Reply::Submit(verdict) => {
                 self.verdict("submit", verdict, book);
@@ -172,13 +183,13 @@ impl Histogram {
             self.converted(*number, before, book, standing);
             return;
         }
-        let (on_old, on_new) = use_of(reply, before != book);
+        let (on_old, on_new) = use_of(reply, before != book, book);
         let old = standing == Standing::Old;
         let new = matches!(self.past, Past::JustConverted | Past::Converted);
         on_old.filter(|_| old).into_iter().for_each(|sight| self.saw(sight));
         on_new.filter(|_| new).into_iter().for_each(|sight| self.saw(sight));
         self.past = match (reply, self.past) {
-            (Reply::Length(_) | Reply::Bytes { .. } | Reply::Open { number: 0, .. }, _) => Past::NotConverted,
+            (_, _) if sets_book(reply) => Past::NotConverted,
             (Reply::Submit(verdict), _) if verdict.broken.is_none() && old => Past::UsedBefore,
             (Reply::Submit(verdict), _) if verdict.broken.is_none() => Past::NotConverted,
             (_, Past::JustConverted) if record.is_call() => Past::Converted,
@@ -212,6 +223,28 @@ impl Histogram {
         let place = NS.iter().position(|&n| n == book[N]).expect("a sound book has one of them");
         for way in marks::differences(message, book) {
             self.differences[place][way as usize] += 1;
+        }
+    }
+
+    fn opening(&mut self, call: &str, number: u8, character: u8, book: &[u8]) {
+        self.answer(call, number, book);
+        if number == 21 {
+            self.character(&format!("{call} 21, character"), character);
+        }
+    }
+
+    /// Counts who filed what of a trade whose final is asked for, and whether one side was late.
+    fn finals(&mut self, record: &Record, reply: &Reply, book: &[u8]) {
+        if sets_book(reply) {
+            self.asked = None;
+        }
+        if let Some(asked) = Asked::of(record, reply, book, self.past == Past::NotConverted) {
+            if let Some(case) = FinalCase::of(asked.filed) {
+                self.finals[usize::from(book[RULE])][case as usize] += 1;
+            }
+            let before = self.asked.take();
+            before.map_or_else(Vec::new, |before| asked.again(&before)).into_iter().for_each(|sight| self.saw(sight));
+            self.asked = Some(asked);
         }
     }
 
@@ -307,6 +340,11 @@ impl Histogram {
                 rows.push((format!("accepted, n {n}, a series differs {}", way.text()), count));
             }
         }
+        for (rule, counts) in RULE_NAMES.iter().zip(&self.finals) {
+            for (case, &count) in FinalCase::ALL.iter().zip(counts) {
+                rows.push((format!("final by {rule}, {}", case.text()), count));
+            }
+        }
         for (call, counts) in JUDGING.iter().zip(&self.versions) {
             for (case, &count) in VersionCase::ALL.iter().zip(counts) {
                 rows.push((format!("{call}, version: {}", case.text()), count));
@@ -320,7 +358,7 @@ impl Histogram {
 }
 
 /// What a reply shows that is not refused: on an old book before its conversion, and after a conversion.
-fn use_of(reply: &Reply, changed: bool) -> (Option<Sight>, Option<Sight>) {
+fn use_of(reply: &Reply, changed: bool, book: &[u8]) -> (Option<Sight>, Option<Sight>) {
     use Sight::*;
     let both = |on_old, on_new| (Some(on_old), Some(on_new));
     match reply {
@@ -328,13 +366,22 @@ fn use_of(reply: &Reply, changed: bool) -> (Option<Sight>, Option<Sight>) {
         Reply::Judge(verdict) if verdict.broken.is_none() => both(OldJudged, NewJudged),
         Reply::Mark { number: 0, .. } => both(OldMark, NewMark),
         Reply::Block { number: 0, .. } => both(OldBlock, NewBlock),
-        Reply::Final { number: 0, .. } => both(OldFinal, NewFinal),
+        Reply::Final { number: 0, .. } if book[RULE] == SELLERS_RULE => both(OldFinalSellers, NewFinalSellers),
+        Reply::Final { number: 0, .. } => both(OldFinalLesser, NewFinalLesser),
         Reply::Listing(text) if text.starts_with(b"slot") => both(OldListing, NewListing),
         Reply::Clock { number: 0, .. } if changed => both(OldClock, NewClock),
         Reply::Plain { number: 0, yes: false } => (Some(OldPlainNo), None),
         Reply::Plain { number: 0, yes: true } => (None, Some(NewPlainYes)),
         _ => (None, None),
     }
+}
+
+/// Whether the book is another one now.
+fn sets_book(reply: &Reply) -> bool {
+    matches!(
+        reply,
+        Reply::Length(_) | Reply::Bytes { .. } | Reply::Open { number: 0, .. } | Reply::OpenBy { number: 0, .. }
+    )
 }
 
 /// Of a message whose form is right.

@@ -28,6 +28,7 @@ pub mod desk;
 pub mod difference;
 pub mod draft;
 pub mod examples;
+pub mod final_case;
 pub mod generator;
 pub mod histogram;
 pub mod names;

@@ -24,10 +24,12 @@ pub struct Matching {
     pub nets: HashMap<Field, [i32; POSITIONS]>,
 }
 
-/// The final quantity of a trade from the messages alone: the seller's, or 0 if only the buyer
-/// filed it. Nothing if neither did. Whether the position is closed is not asked here.
+/// The final quantity of a trade from the messages and the book's rule alone. The seller's rule gives what the
+/// seller filed, or 0 if only the buyer filed it; the other gives what both sides grant, so 0 where one did
+/// not file. Nothing if neither did. Whether the position is closed is not asked here.
 pub fn final_quantity(
     accepted: &[impl AsRef<[u8]>],
+    rule: u8,
     out_party: &[u8],
     in_party: &[u8],
     position: Position,
@@ -39,9 +41,13 @@ pub fn final_quantity(
             .skip(1)
             .find(|series| field(series, OUT_PARTY) == *out_party && field(series, IN_PARTY) == *in_party)
     };
-    match filed_by(out_party) {
-        Some(series) => Some(quantity(series, position)),
-        None => filed_by(in_party).map(|_| 0),
+    let of = |series: &Block| quantity(series, position);
+    match (filed_by(out_party), filed_by(in_party)) {
+        (None, None) => None,
+        (Some(sold), _) if rule == SELLERS_RULE => Some(of(sold)),
+        (Some(sold), Some(bought)) if of(bought) > of(sold) => Some(of(sold)),
+        (Some(_), Some(bought)) if rule != SELLERS_RULE => Some(of(bought)),
+        _ => Some(0),
     }
 }
 

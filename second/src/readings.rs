@@ -48,19 +48,28 @@ pub fn final_in(book: &SoundBook, out_party: &[u8], in_party: &[u8], position: P
     if position.is_open(book.clock(), book.lead()) {
         return (NOT_CLOSED, 0);
     }
-    // At most two series carry the pair, the seller's and the buyer's. The seller's decides; if
-    // only the buyer filed, the seller's missing series counts as 0.
-    let mut answer = (UNKNOWN_PAIR, 0);
+    // At most two series carry the pair, the seller's and the buyer's. One that is missing counts 0.
+    let (mut sold, mut bought) = (None, None);
     for (_, block) in book.series() {
         let (bought_by, sold_by) = pair(block);
         if bought_by == *in_party && sold_by == *out_party {
-            if book.owner(block) == sold_by {
-                return (0, quantity(block, position));
-            }
-            answer = (0, 0);
+            let side = if book.owner(block) == sold_by { &mut sold } else { &mut bought };
+            *side = Some(quantity(block, position));
         }
     }
-    answer
+    match (sold, bought) {
+        (None, None) => (UNKNOWN_PAIR, 0),
+        _ => (0, settled(book.rule(), sold.unwrap_or(0), bought.unwrap_or(0))),
+    }
+}
+
+/// The final of a trade by the rule of its book.
+fn settled(rule: u8, sold: u32, bought: u32) -> u32 {
+    if rule == LESSER_RULE {
+        sold.min(bought)
+    } else {
+        sold
+    }
 }
 
 /// Computes every mark and net anew from the series and tells whether the book keeps just these.

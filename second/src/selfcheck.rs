@@ -25,6 +25,8 @@ const MOST_FINALS: usize = 200;
 #[derive(Default)]
 struct History {
     book: Vec<u8>,
+    /// By which rule its finals are given.
+    rule: u8,
     accepted: Vec<Vec<u8>>,
     finals: HashMap<(Vec<u8>, Vec<u8>, u16), u32>,
 }
@@ -64,7 +66,8 @@ impl Ledger {
             }
         }
         let refused = match reply {
-            Reply::Open { number, .. } | Reply::Clock { number, .. } | Reply::Convert(number) => *number != 0,
+            Reply::Open { number, .. } | Reply::OpenBy { number, .. } => *number != 0,
+            Reply::Clock { number, .. } | Reply::Convert(number) => *number != 0,
             Reply::Submit(verdict) => verdict.broken.is_some(),
             _ => false,
         };
@@ -72,13 +75,14 @@ impl Ledger {
             return if before == after { Ok(()) } else { Err("a refused call changed the book".into()) };
         }
         match (record, reply) {
-            (Record::Open { .. }, _) => {
-                self.legal = History { book: after.to_vec(), ..History::default() };
-                self.aside = None;
-            }
-            (Record::Clock(_), _) if before == self.legal.book => {
-                self.legal.book = after.to_vec();
-                self.verify(after)?;
+            (Record::Open(_), _) => self.opened(after, LESSER_RULE)?,
+            (Record::OpenBy { rule, .. }, _) => self.opened(after, *rule)?,
+            (Record::Clock(_), _) => {
+                moved_only_the_clock(before, after)?;
+                if before == self.legal.book {
+                    self.legal.book = after.to_vec();
+                    self.verify(after)?;
+                }
             }
             (Record::Submit(message), _) => {
                 written_only_where_allowed(message, before, after)?;
@@ -96,8 +100,8 @@ impl Ledger {
                 converted_only_marks_and_nets(before, after)?;
                 if after != self.legal.book {
                     // From here on the series kept stand as their senders' latest messages.
-                    let converted =
-                        History { book: after.to_vec(), accepted: messages_of(after)?, ..History::default() };
+                    let (book, rule, accepted) = (after.to_vec(), before[RULE], messages_of(after)?);
+                    let converted = History { book, rule, accepted, ..History::default() };
                     self.aside = Some(std::mem::replace(&mut self.legal, converted));
                 }
                 self.verify(after)?;
@@ -111,7 +115,8 @@ impl Ledger {
             (Record::Final { out_party, in_party, position }, Reply::Final { number: number @ (0 | 26), value })
                 if after == self.legal.book =>
             {
-                let plain = plain_rule::final_quantity(&self.legal.accepted, out_party, in_party, Position(*position));
+                let (accepted, rule) = (&self.legal.accepted, self.legal.rule);
+                let plain = plain_rule::final_quantity(accepted, rule, out_party, in_party, Position(*position));
                 if plain != (*number == 0).then_some(*value) {
                     return Err("a final differs from the accepted messages".into());
                 }
@@ -122,6 +127,16 @@ impl Ledger {
             }
             _ => {}
         }
+        Ok(())
+    }
+
+    /// A book begins, by a rule that there is and that its day block names.
+    fn opened(&mut self, book: &[u8], rule: u8) -> Result<(), String> {
+        if rule > 1 || book[6] != rule {
+            return Err("a book is opened by another rule than is named".into());
+        }
+        self.legal = History { book: book.to_vec(), rule, ..History::default() };
+        self.aside = None;
         Ok(())
     }
 
@@ -171,7 +186,7 @@ impl Ledger {
 /// The character that a reply tells.
 fn character_told(reply: &Reply) -> u8 {
     match reply {
-        Reply::Open { character, .. } | Reply::Eic(character) => *character,
+        Reply::Open { character, .. } | Reply::OpenBy { character, .. } | Reply::Eic(character) => *character,
         Reply::Submit(verdict) | Reply::Judge(verdict) => verdict.character,
         _ => 0,
     }
@@ -182,7 +197,8 @@ fn character_told(reply: &Reply) -> u8 {
 fn character_due(record: &Record, reply: &Reply) -> u8 {
     let codes: Vec<&[u8]> = match (record, reply) {
         (Record::Eic(text), _) => vec![text],
-        (Record::Open { area, receiver, .. }, Reply::Open { number: 21, .. }) => vec![area, receiver],
+        (Record::Open(opening), Reply::Open { number: 21, .. })
+        | (Record::OpenBy { opening, .. }, Reply::OpenBy { number: 21, .. }) => vec![&opening.area, &opening.receiver],
         (Record::Submit(message), Reply::Submit(verdict)) | (Record::Judge(message), Reply::Judge(verdict)) => {
             let series = usize::from(verdict.series) * BLOCK_BYTES;
             match verdict.number() {
@@ -237,6 +253,16 @@ fn series_versions_follow(message: &[u8], before: &[u8]) -> Result<(), String> {
         }
     }
     Ok(())
+}
+
+/// After a clock move nothing but bytes 4 and 5 of the day block and its check may be another.
+fn moved_only_the_clock(before: &[u8], after: &[u8]) -> Result<(), String> {
+    if before[..4] == after[..4] && before[6..CHECK] == after[6..CHECK] && before[BLOCK_BYTES..] == after[BLOCK_BYTES..]
+    {
+        Ok(())
+    } else {
+        Err("the clock changed what it must not".into())
+    }
 }
 
 /// Whether byte 104 of every series is a state of document 01.

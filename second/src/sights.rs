@@ -3,18 +3,20 @@
 use crate::block::*;
 use crate::book::SoundBook;
 use crate::clause::cases;
-use crate::counts::{Position, LATEST_MINUTE, LONGEST_LEAD};
+use crate::counts::{Position, LATEST_MINUTE};
 use crate::crafted::sealed;
 use crate::desk::Reply;
 use crate::identifier::{fails_by_hyphen_alone, is_valid_eic, wrong_character, NO_VALUE, VALUES as CHARACTERS};
 use crate::listing::MOST_BYTES;
 use crate::names::read_carelessly;
-use crate::sound::{is_day, MOST_BLOCKS, NS};
+use crate::sound::MOST_BLOCKS;
 use crate::stream::Record;
 use crate::submission::{judge, Broken, Verdict};
 use crate::versions::{kept_sender, kept_version};
 
 pub mod marks;
+mod openings;
+pub mod rules;
 
 const FIFTEEN_ZEROS: [u8; 15] = [b'0'; 15];
 
@@ -71,6 +73,14 @@ cases! {
         OpenCodeShort "open 21, area or receiver too short, nothing else wrong in it",
         OpenCodeLong "open 21, area or receiver too long, nothing else wrong in it",
         OpenLengthAndCode "open 20, a code wrong",
+        OpenLengthAndRule "open 20, the rule wrong",
+        OpenedBySellers "open 0, the seller's rule named",
+        OpenedByLesser "open 0, the lesser value named",
+        RuleNext "open 21 for the rule 2 alone",
+        RuleHighest "open 21 for the rule 255 alone",
+        RuleOther "open 21 for a rule of 3 to 254 alone",
+        RuleAndCode "open 21, the rule and a code wrong",
+        RuleAndOther "open 21, the rule and n, lead or day wrong, both codes good",
         BothParties "rule 8, both parties wrong at different characters",
         EqualWrongParties "rule 8, one wrong code as both parties",
         Zeros "rule 4 or 8 for fifteen zeros",
@@ -87,6 +97,16 @@ cases! {
         CountOfN "not refused, a series keeps a count of n",
         FinalAbove0 "final with a value above 0",
         FinalSellerMissing "final with a missing seller series",
+        LateBuyerSellers "final by the seller's rule, again after a late buyer",
+        LateSellerSellers "final by the seller's rule, again after a late seller",
+        LateBuyerLesser "final by the lesser value, again after a late buyer",
+        LateSellerLesser "final by the lesser value, again after a late seller",
+        ClockSellers "clock moved in a book of the seller's rule",
+        ClockLesser "clock moved in a book of the lesser value",
+        AcceptedSellers "accepted in a book of the seller's rule",
+        AcceptedLesser "accepted in a book of the lesser value",
+        ConvertedSellers "converted, a book of the seller's rule",
+        ConvertedLesser "converted, a book of the lesser value",
         PlainYes "plain run says yes",
         PlainNo "plain run says no",
         PlainNoCount "plain run says no, counts alone false",
@@ -137,7 +157,8 @@ cases! {
         OldJudged "old book before its conversion: a message judged good",
         OldMark "old book before its conversion: a mark",
         OldBlock "old book before its conversion: a block",
-        OldFinal "old book before its conversion: a final",
+        OldFinalSellers "old book before its conversion: a final by the seller's rule",
+        OldFinalLesser "old book before its conversion: a final by the lesser value",
         OldPlainNo "old book before its conversion: the plain run says no",
         OldListing "old book before its conversion: a listing printed",
         OldClock "old book before its conversion: the clock moved",
@@ -145,7 +166,10 @@ cases! {
         NewJudged "after a conversion, nothing accepted since: a message judged good",
         NewMark "after a conversion, nothing accepted since: a mark",
         NewBlock "after a conversion, nothing accepted since: a block",
-        NewFinal "after a conversion, nothing accepted since: a final",
+        NewFinalSellers "after a conversion, nothing accepted since: a final by the seller's rule",
+        NewFinalLesser "after a conversion, nothing accepted since: a final by the lesser value",
+        AgainSellers "after a conversion: a final by the seller's rule that was given before it",
+        AgainLesser "after a conversion: a final by the lesser value that was given before it",
         NewPlainYes "after a conversion, nothing accepted since: the plain run says yes",
         NewListing "after a conversion, nothing accepted since: a listing printed",
         NewClock "after a conversion, nothing accepted since: the clock moved",
@@ -162,14 +186,9 @@ pub fn sights(record: &Record, reply: &Reply, before: &[u8], book: &[u8]) -> Vec
             };
             [of_verdict, versions(message, verdict, before)].concat()
         }
-        (Record::Open { n, lead, day, area, receiver }, Reply::Open { number: 21, .. }) => {
-            let other = !NS.contains(n) || *lead > LONGEST_LEAD || !is_day(day);
-            let mut seen = held(&[(*lead == LONGEST_LEAD + 1, Sight::LeadBeyondLongest)]);
-            seen.extend(codes_of_opening(area, receiver, other));
-            seen
-        }
-        (Record::Open { area, receiver, .. }, Reply::Open { number: 20, .. }) => {
-            held(&[(!is_valid_eic(area) || !is_valid_eic(receiver), Sight::OpenLengthAndCode)])
+        (Record::Open(opening), Reply::Open { number, .. }) => openings::opening(opening, None, *number),
+        (Record::OpenBy { rule, opening }, Reply::OpenBy { number, .. }) => {
+            openings::opening(opening, Some(*rule), *number)
         }
         (Record::Clock(minute), Reply::Clock { number: 22, .. }) => {
             held(&[(*minute == LATEST_MINUTE + 1, Sight::ClockBeyondLast)])
@@ -340,21 +359,6 @@ fn codes_of_refusal(message: &[u8], verdict: &Verdict) -> Vec<Sight> {
         (number == 8 && decided.starts_with(&FIFTEEN_ZEROS), Sight::Zeros),
         (number == 7 && (of_in != 0 || of_out != 0), Sight::UnjudgedParty),
         (number == 9 && !areas_valid, Sight::UnjudgedArea),
-    ])
-}
-
-/// What the codes of an opening refused by 21 show; other tells whether n, lead or day is wrong too.
-fn codes_of_opening(area: &[u8], receiver: &[u8], other: bool) -> Vec<Sight> {
-    let (of_area, of_receiver) = (wrong_character(area), wrong_character(receiver));
-    let decided = if of_area != 0 { area } else { receiver };
-    held(&[
-        (fails_by_hyphen_alone(area) && of_receiver == 0, Sight::HyphenArea),
-        (fails_by_hyphen_alone(receiver) && of_area == 0, Sight::HyphenReceiver),
-        (of_area != 0 && of_receiver != 0 && of_area != of_receiver, Sight::OpenBothCodes),
-        (of_area == 0 && of_receiver != 0, Sight::OpenReceiverAlone),
-        (other && (of_area != 0 || of_receiver != 0), Sight::OpenCodeAndOther),
-        (ends_early(decided), Sight::OpenCodeShort),
-        (only_too_long(decided), Sight::OpenCodeLong),
     ])
 }
 

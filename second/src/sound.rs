@@ -29,6 +29,7 @@ clauses! {
         DayN "day block: n",
         DayLead "day block: lead",
         DayClock "day block: clock",
+        DayRule "day block: byte 6 names no rule",
         DayZeroBytes "day block: a byte that must be 0",
         DayDigits "day block: day not eight digits",
         DayArea "day block: area not an EIC",
@@ -148,7 +149,8 @@ fn broken_in_day(day: &Block) -> u64 {
     demand!(broken, DayN, NS.contains(&day[N]));
     demand!(broken, DayLead, u16_at(day, LEAD) <= LONGEST_LEAD);
     demand!(broken, DayClock, u16_at(day, CLOCK) <= LATEST_MINUTE);
-    demand!(broken, DayZeroBytes, all_zero(&day[6..8]) && all_zero(&day[16..24]) && all_zero(&day[56..CHECK]));
+    demand!(broken, DayRule, is_rule(day[RULE]));
+    demand!(broken, DayZeroBytes, day[7] == 0 && all_zero(&day[16..24]) && all_zero(&day[56..CHECK]));
     demand!(broken, DayDigits, is_day(&day[DAY_IN_DAY_BLOCK..DAY_IN_DAY_BLOCK + DAY_DIGITS]));
     demand!(broken, DayArea, is_valid_eic(&field(day, AREA)));
     demand!(broken, DayReceiver, is_valid_eic(&field(day, RECEIVER)));
@@ -251,6 +253,11 @@ fn broken_between(used: &[(Slot, &Block)], count: usize) -> u64 {
 
 fn all_zero(bytes: &[u8]) -> bool {
     bytes.iter().fold(0, |seen, &byte| seen | byte) == 0
+}
+
+/// Whether a book's finals can be given by this rule.
+pub fn is_rule(rule: u8) -> bool {
+    matches!(rule, SELLERS_RULE | LESSER_RULE)
 }
 
 /// Eight digits; no calendar is asked.

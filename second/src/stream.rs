@@ -12,6 +12,16 @@ pub const MOST_MESSAGE_BYTES: usize = 256 * BLOCK_BYTES;
 /// The longest name, text or print buffer.
 pub const MOST_TEXT_BYTES: usize = 64;
 
+/// What a book is opened with, but for the rule of its finals.
+#[derive(Clone, Debug, PartialEq, Eq)]
+pub struct Opening {
+    pub n: u8,
+    pub lead: u16,
+    pub day: Vec<u8>,
+    pub area: Vec<u8>,
+    pub receiver: Vec<u8>,
+}
+
 /// One call, or one of the four records that set or show the buffer.
 #[derive(Clone, Debug, PartialEq, Eq)]
 pub enum Record {
@@ -19,7 +29,7 @@ pub enum Record {
     Bytes { offset: u32, bytes: Vec<u8> },
     Book,
     Sum,
-    Open { n: u8, lead: u16, day: Vec<u8>, area: Vec<u8>, receiver: Vec<u8> },
+    Open(Opening),
     Clock(u16),
     Submit(Vec<u8>),
     Mark { sender: Vec<u8>, id: Vec<u8> },
@@ -38,6 +48,7 @@ pub enum Record {
     Seal(Box<Block>),
     Code(u8),
     Judge(Vec<u8>),
+    OpenBy { rule: u8, opening: Opening },
     Convert,
 }
 
@@ -71,6 +82,7 @@ const TAG_CHECK: u8 = 20;
 const TAG_SEAL: u8 = 21;
 const TAG_CODE: u8 = 22;
 const TAG_JUDGE: u8 = 23;
+const TAG_OPEN_BY: u8 = 24;
 const TAG_CONVERT: u8 = 25;
 
 /// The fewest and the most bytes a body of this kind may have; nothing for an unknown tag.
@@ -80,6 +92,7 @@ pub fn body_limits(tag: u8) -> Option<(usize, usize)> {
         TAG_BYTES => (4, 4 + MOST_BOOK_BYTES),
         TAG_BOOK | TAG_SUM | TAG_PLAIN | TAG_LISTING | TAG_SOUND | TAG_CONVERT => (0, 0),
         TAG_OPEN => (6, 6 + 3 * MOST_TEXT_BYTES),
+        TAG_OPEN_BY => (7, 7 + 3 * MOST_TEXT_BYTES),
         TAG_CLOCK => (2, 2),
         TAG_SUBMIT | TAG_WALK | TAG_JUDGE => (0, MOST_MESSAGE_BYTES),
         TAG_MARK | TAG_BLOCK => (2, 2 + 2 * MOST_TEXT_BYTES),
@@ -94,7 +107,7 @@ pub fn body_limits(tag: u8) -> Option<(usize, usize)> {
 }
 
 /// The calls: tag and word.
-pub const CALLS: [(u8, &str); 20] = [
+pub const CALLS: [(u8, &str); 21] = [
     (TAG_OPEN, "open"),
     (TAG_CLOCK, "clock"),
     (TAG_SUBMIT, "submit"),
@@ -114,6 +127,7 @@ pub const CALLS: [(u8, &str); 20] = [
     (TAG_SEAL, "seal"),
     (TAG_CODE, "code"),
     (TAG_JUDGE, "judge"),
+    (TAG_OPEN_BY, "open_by"),
     (TAG_CONVERT, "convert"),
 ];
 
@@ -177,7 +191,8 @@ impl Record {
             self,
             Record::Length(_)
                 | Record::Bytes { .. }
-                | Record::Open { .. }
+                | Record::Open(_)
+                | Record::OpenBy { .. }
                 | Record::Clock(_)
                 | Record::Submit(_)
                 | Record::Convert
@@ -190,7 +205,7 @@ impl Record {
             Record::Bytes { .. } => TAG_BYTES,
             Record::Book => TAG_BOOK,
             Record::Sum => TAG_SUM,
-            Record::Open { .. } => TAG_OPEN,
+            Record::Open(_) => TAG_OPEN,
             Record::Clock(_) => TAG_CLOCK,
             Record::Submit(_) => TAG_SUBMIT,
             Record::Mark { .. } => TAG_MARK,
@@ -209,6 +224,7 @@ impl Record {
             Record::Seal(_) => TAG_SEAL,
             Record::Code(_) => TAG_CODE,
             Record::Judge(_) => TAG_JUDGE,
+            Record::OpenBy { .. } => TAG_OPEN_BY,
             Record::Convert => TAG_CONVERT,
         }
     }
@@ -222,13 +238,8 @@ impl Record {
                 body.extend(bytes);
             }
             Record::Book | Record::Sum | Record::Plain | Record::Listing | Record::Sound | Record::Convert => {}
-            Record::Open { n, lead, day, area, receiver } => {
-                body.push(*n);
-                body.extend(lead.to_le_bytes());
-                put_name(&mut body, day);
-                put_name(&mut body, area);
-                put_name(&mut body, receiver);
-            }
+            Record::Open(opening) => put_opening(&mut body, opening, None),
+            Record::OpenBy { rule, opening } => put_opening(&mut body, opening, Some(*rule)),
             Record::Clock(minute) => body.extend(minute.to_le_bytes()),
             Record::Mark { sender, id } | Record::Block { sender, id } => {
                 put_name(&mut body, sender);
@@ -305,6 +316,16 @@ fn fill(input: &mut impl Read, buffer: &mut [u8]) -> Result<bool, Stop> {
     Ok(true)
 }
 
+/// The rule, where one is named, stands between the lead and the day.
+fn put_opening(body: &mut Vec<u8>, opening: &Opening, rule: Option<u8>) {
+    body.push(opening.n);
+    body.extend(opening.lead.to_le_bytes());
+    body.extend(rule);
+    put_name(body, &opening.day);
+    put_name(body, &opening.area);
+    put_name(body, &opening.receiver);
+}
+
 fn put_name(body: &mut Vec<u8>, name: &[u8]) {
     assert!(name.len() <= MOST_TEXT_BYTES, "a name of {} bytes would be malformed", name.len());
     body.push(name.len() as u8);
@@ -348,6 +369,14 @@ impl<'body> Fields<'body> {
         std::mem::take(&mut self.0).to_vec()
     }
 
+    /// An opening, and its rule where one is named.
+    fn opening(&mut self, names_rule: bool) -> Option<(Opening, u8)> {
+        let (n, lead) = (self.u8()?, self.u16()?);
+        let rule = if names_rule { self.u8()? } else { 0 };
+        let (day, area, receiver) = (self.name()?, self.name()?, self.name()?);
+        Some((Opening { n, lead, day, area, receiver }, rule))
+    }
+
     fn block(&mut self) -> Option<Box<Block>> {
         let bytes: Block = self.take(BLOCK_BYTES)?.try_into().ok()?;
         Some(Box::new(bytes))
@@ -362,13 +391,11 @@ fn decode(tag: u8, body: &[u8]) -> Option<Record> {
         TAG_BYTES => Record::Bytes { offset: fields.u32()?, bytes: fields.rest() },
         TAG_BOOK => Record::Book,
         TAG_SUM => Record::Sum,
-        TAG_OPEN => Record::Open {
-            n: fields.u8()?,
-            lead: fields.u16()?,
-            day: fields.name()?,
-            area: fields.name()?,
-            receiver: fields.name()?,
-        },
+        TAG_OPEN => Record::Open(fields.opening(false)?.0),
+        TAG_OPEN_BY => {
+            let (opening, rule) = fields.opening(true)?;
+            Record::OpenBy { rule, opening }
+        }
         TAG_CLOCK => Record::Clock(fields.u16()?),
         TAG_SUBMIT => Record::Submit(fields.rest()),
         TAG_MARK => Record::Mark { sender: fields.name()?, id: fields.name()? },
@@ -403,11 +430,13 @@ mod tests {
 
     #[test]
     fn records_come_back_as_written() {
+        let opening = Opening { n: 96, lead: 45, day: b"20190131".to_vec(), area: vec![65; 15], receiver: Vec::new() };
         let records = [
             Record::Length(1_024),
             Record::Bytes { offset: 7, bytes: vec![1, 2, 3] },
             Record::Book,
-            Record::Open { n: 96, lead: 45, day: b"20190131".to_vec(), area: vec![65; 15], receiver: vec![] },
+            Record::Open(opening.clone()),
+            Record::OpenBy { rule: 7, opening },
             Record::Final { out_party: vec![66; 16], in_party: vec![67; 16], position: 300 },
             Record::Reader { number: 2, message: vec![9; 1_024] },
             Record::Print { quantity: 5, buffer: vec![] },
@@ -427,10 +456,19 @@ mod tests {
     }
 
     #[test]
+    fn the_rule_of_an_opening_stands_behind_its_lead() {
+        let read = read(&[24, 10, 0, 0, 0, 96, 1, 2, 9, 1, 48, 1, 65, 1, 66]).unwrap();
+        let opening = Opening { n: 96, lead: 513, day: vec![48], area: vec![65], receiver: vec![66] };
+        assert_eq!(read, Some(Record::OpenBy { rule: 9, opening }));
+    }
+
+    #[test]
     fn malformed_streams_are_noticed() {
         assert!(matches!(read(&[]), Ok(None)));
         assert!(matches!(read(&[0, 0, 0, 0, 0]), Err(Stop::Malformed)));
-        assert!(matches!(read(&[24, 0, 0, 0, 0]), Err(Stop::Malformed)));
+        assert!(matches!(read(&[24, 6, 0, 0, 0, 0, 0, 0, 0, 0, 0]), Err(Stop::Malformed)));
+        assert!(matches!(read(&[24, 7, 0, 0, 0, 0, 0, 0, 0, 0, 0, 1]), Err(Stop::Malformed)));
+        assert!(matches!(read(&[24, 200, 0, 0, 0]), Err(Stop::Malformed)));
         assert!(matches!(read(&[26, 0, 0, 0, 0]), Err(Stop::Malformed)));
         assert!(matches!(read(&[25, 1, 0, 0, 0, 0]), Err(Stop::Malformed)));
         assert!(matches!(read(&[3]), Err(Stop::Malformed)));

@@ -7,12 +7,12 @@ use crate::random::Random;
 /// A valid EIC, or a text that is close to one.
 pub fn eic(random: &mut Random, valid: &Field) -> Vec<u8> {
     let mut code = valid.to_vec();
-    match random.below(11) {
+    match random.below(12) {
         0 | 1 => {}
         2 => code[random.below(16)] = random.byte(),
         3 => code[15] = random.byte(),
         4 => code.truncate(random.below(16)),
-        5 => code.push(b'0'),
+        5 | 10 => code.push(b'0'),
         6 => {
             code = vec![b'0'; 16];
             code[15] = names::character(random);

@@ -127,17 +127,6 @@ impl Generator {
         self.queue.push_back(Record::Final { out_party, in_party, position });
     }
 
-    /// The final of a filed trade at a closed position. There must be both.
-    pub(super) fn closed_final(&mut self, book: &[u8]) {
-        let random = &mut self.random;
-        let series: Vec<&Block> = blocks(book).skip(1).filter(|block| block[KIND] == KIND_SERIES).collect();
-        let (in_party, out_party) = pair(random.pick(&series));
-        let day = block_at(book, 0);
-        let last_closed = (first_open(day) - 1).min(u16::from(day[N]));
-        let position = random.between(1, usize::from(last_closed)) as u16;
-        self.queue.push_back(Record::Final { out_party: out_party.to_vec(), in_party: in_party.to_vec(), position });
-    }
-
     /// Damages the book, makes some calls on it and then puts it back as it was.
     pub(super) fn damage(&mut self, book: &[u8]) {
         if self.repair.is_some() || !is_sound(book) {
@@ -257,7 +246,7 @@ impl Generator {
 }
 
 /// The lowest open position of a hundred; 101 when all are closed.
-pub(super) fn first_open(day: &Block) -> u16 {
+fn first_open(day: &Block) -> u16 {
     let (clock, lead) = (Minute(u16_at(day, CLOCK)), u16_at(day, LEAD));
     (1..=100).find(|&position| Position(position).is_open(clock, lead)).unwrap_or(101)
 }

@@ -1,6 +1,5 @@
 //! Counts of differing positions, false marks and nets, old books and their conversion.
 
-use super::calls::first_open;
 use super::{Generator, Standing};
 use crate::block::*;
 use crate::clause::cases;
@@ -8,6 +7,7 @@ use crate::conversion::convert;
 use crate::counts::LATEST_MINUTE;
 use crate::crafted;
 use crate::draft::{Draft, Growth, New, Version};
+use crate::final_case::last_closed;
 use crate::listing;
 use crate::old_book::{old_book, with_bad_state, BadState, Falsehood};
 use crate::random::Random;
@@ -95,11 +95,14 @@ impl Generator {
             ConversionTurn::TooLate => self.convert_too_late(book, old),
             ConversionTurn::Old(_) => {
                 self.queue.standing = Standing::Old;
-                for _ in 0..self.random.between(1, 2) {
+                for _ in 0..self.random.between(1, 3) {
                     let dealt = self.old_uses.deal_serving(&mut self.random, |_, use_of| use_of.serves(book));
                     dealt.into_iter().for_each(|(use_of, ())| self.make_use(book, use_of));
                 }
+                // A final that was given must be given again.
+                let given = self.queue.last_final();
                 self.convert_and_show(&old);
+                given.into_iter().for_each(|record| self.queue.push_back(record));
                 for _ in 0..self.random.between(1, 2) {
                     let dealt = self.new_uses.deal_serving(&mut self.random, |_, use_of| use_of.serves(book));
                     dealt.into_iter().for_each(|(use_of, ())| self.make_use(book, use_of));
@@ -140,7 +143,7 @@ impl Generator {
         match use_of {
             Use::Mark => self.mark_or_block(book, true),
             Use::Block => self.mark_or_block(book, false),
-            Use::Final => self.closed_final(book),
+            Use::Final => self.next_final(book),
             Use::Plain => self.queue.push_back(Record::Plain),
             Use::Listing => self.queue.push_back(Record::Listing),
             Use::Clock => {
@@ -289,7 +292,7 @@ impl Use {
     /// Whether the book has what it needs: a final a position that is closed, a listing 64 blocks at most.
     fn serves(self, book: &[u8]) -> Option<()> {
         let can = match self {
-            Use::Final => first_open(block_at(book, 0)) > 1,
+            Use::Final => last_closed(block_at(book, 0)) > 0,
             Use::Listing => book.len() <= listing::MOST_BYTES,
             _ => true,
         };

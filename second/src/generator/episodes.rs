@@ -2,22 +2,35 @@
 
 use super::{flip_and_reseal, senders_of, Climber, Episode, Generator, BEYOND_CLIMB};
 use crate::block::*;
-use crate::breach::break_book;
+use crate::breach::{break_book, Breach};
 use crate::clause::cases;
 use crate::counts::{DAY_START, LONGEST_LEAD};
 use crate::crafted::{self, Shape};
 use crate::draft::{Draft, Growth, New, Version};
 use crate::names;
-use crate::sound::{is_sound, FEWEST_BLOCKS, MOST_BLOCKS};
-use crate::stream::{Record, MOST_TEXT_BYTES};
+use crate::random::Random;
+use crate::sound::{is_sound, FEWEST_BLOCKS, MOST_BLOCKS, NS};
+use crate::stream::{Opening, Record, MOST_TEXT_BYTES};
 use crate::versions::kept_version;
 
 cases! {
-    /// Which code of an opening is wrong.
-    WrongOpening {
-        Area,
-        Receiver,
-        Both,
+    /// A rule that there is not, alone or with something else wrong.
+    WrongRule {
+        Next,
+        Highest,
+        Other,
+        AndCode,
+        AndOther,
+    }
+}
+
+cases! {
+    /// What is tried on a buffer that no book can have.
+    OpeningInVain {
+        NoRule,
+        Rule,
+        WrongCode,
+        WrongRule,
     }
 }
 
@@ -92,21 +105,29 @@ impl Generator {
     /// Opens a book, after a few attempts that fail.
     pub(super) fn opened_book(&mut self) {
         let length = self.blocks() * BLOCK_BYTES;
-        if self.random.percent(20) {
+        if self.random.percent(40) {
             // No book may have these lengths.
             let wrong = self.random.pick(&[0, 1, 511, 512, 513, 1_025, (length - 1) as u32]);
             self.queue.push_back(Record::Length(wrong));
-            let open = if self.random.percent(60) { self.wrong_opening() } else { self.opening() };
+            let open = match self.openings_in_vain.deal(&mut self.random) {
+                OpeningInVain::NoRule => Record::Open(self.parameters()),
+                OpeningInVain::Rule => Record::OpenBy { rule: self.some_rule(), opening: self.parameters() },
+                OpeningInVain::WrongCode => {
+                    let (names_rule, character) = (self.random.percent(50), names::character_number(&mut self.random));
+                    self.opening_with_wrong_code(names_rule, character)
+                }
+                OpeningInVain::WrongRule => self.opening_with_wrong_rule(),
+            };
             self.queue.push_back(open);
         }
         self.queue.push_back(Record::Length(length as u32));
-        while self.random.percent(67) {
+        while self.random.percent(73) {
             let open = self.wrong_opening();
             self.queue.push_back(open);
         }
-        let open = self.opening();
-        let lead = match open {
-            Record::Open { lead, .. } => lead,
+        let open = self.lawful_opening();
+        let lead = match &open {
+            Record::Open(opening) | Record::OpenBy { opening, .. } => opening.lead,
             _ => 0,
         };
         self.queue.push_back(open);
@@ -118,11 +139,20 @@ impl Generator {
         }
     }
 
-    /// Lawful parameters.
-    pub(super) fn opening(&mut self) -> Record {
+    /// An opening that names a rule, or none.
+    pub(super) fn lawful_opening(&mut self) -> Record {
+        let opening = Opening { n: self.ns.deal(&mut self.random), ..self.parameters() };
+        match self.rules.deal(&mut self.random) {
+            None => Record::Open(opening),
+            Some(rule) => Record::OpenBy { rule, opening },
+        }
+    }
+
+    /// Lawful parameters, but for the rule.
+    fn parameters(&mut self) -> Opening {
         let random = &mut self.random;
-        Record::Open {
-            n: self.ns.deal(random),
+        Opening {
+            n: random.pick(&NS),
             lead: crafted::lead(random),
             day: names::day(random).to_vec(),
             area: random.pick(&self.pool).to_vec(),
@@ -130,58 +160,102 @@ impl Generator {
         }
     }
 
-    /// Parameters with one unlawful value among them, sometimes two; often a code, or both, wrong at the
-    /// character that is next in turn.
+    /// An opening with one unlawful value in it, sometimes two: often a code, or both, wrong at the character that
+    /// is next in turn, else a rule that there is not.
     pub(super) fn wrong_opening(&mut self) -> Record {
-        let mut opening = self.opening();
+        match self.random.weighted(&[74, 14, 12]) {
+            0 => {
+                let (names_rule, character) = self.wrong_openings.deal(&mut self.random);
+                self.opening_with_wrong_code(names_rule, character)
+            }
+            1 => self.opening_with_wrong_rule(),
+            _ => self.opening_with_wrong_parameter(),
+        }
+    }
+
+    /// Some rule that there is.
+    fn some_rule(&mut self) -> u8 {
+        self.random.pick(&[SELLERS_RULE, LESSER_RULE])
+    }
+
+    fn opening_with_wrong_parameter(&mut self) -> Record {
+        let mut opening = self.parameters();
+        if self.random.percent(60) {
+            spoil_n_lead_or_day(&mut self.random, &mut opening);
+        } else {
+            (0..self.random.between(1, 2)).for_each(|_| self.spoil_parameter(&mut opening));
+        }
+        if self.random.percent(50) {
+            Record::Open(opening)
+        } else {
+            Record::OpenBy { rule: self.some_rule(), opening }
+        }
+    }
+
+    /// An opening that tells this character: of the area, of the receiver, or of the area where both are wrong.
+    fn opening_with_wrong_code(&mut self, names_rule: bool, character: u8) -> Record {
+        let mut opening = self.parameters();
         let random = &mut self.random;
-        let (n, lead, day, area, receiver) = match &mut opening {
-            Record::Open { n, lead, day, area, receiver } => (n, lead, day, area, receiver),
-            _ => unreachable!("an opening was made"),
+        let wrong = names::wrong_text_at(random, character);
+        match random.below(3) {
+            0 => opening.area = wrong,
+            1 => opening.receiver = wrong,
+            _ => {
+                let other = names::character_number(random);
+                opening.area = wrong;
+                opening.receiver = names::wrong_text_at(random, other);
+            }
+        }
+        if random.percent(25) {
+            self.spoil_parameter(&mut opening);
+        }
+        if names_rule {
+            Record::OpenBy { rule: self.some_rule(), opening }
+        } else {
+            Record::Open(opening)
+        }
+    }
+
+    fn opening_with_wrong_rule(&mut self) -> Record {
+        let mut opening = self.parameters();
+        let turn = self.wrong_rules.deal(&mut self.random);
+        let random = &mut self.random;
+        let rule = match turn {
+            WrongRule::Next => LESSER_RULE + 1,
+            WrongRule::Highest => 255,
+            WrongRule::Other => random.between(3, 254) as u8,
+            WrongRule::AndCode | WrongRule::AndOther => random.pick(&[2, 2, 3, 128, 255]),
         };
-        let mut others = random.pick(&[1, 1, 1, 2]);
-        if random.percent(80) {
-            let (which, character) = self.wrong_openings.deal(random);
-            let wrong = names::wrong_text_at(random, character);
-            match which {
-                WrongOpening::Area => *area = wrong,
-                WrongOpening::Receiver => *receiver = wrong,
-                WrongOpening::Both => {
-                    let other = names::character_number(random);
-                    *area = wrong;
-                    *receiver = names::wrong_text_at(random, other);
-                }
+        match turn {
+            WrongRule::AndCode => {
+                let character = names::character_number(random);
+                let code = if random.percent(50) { &mut opening.area } else { &mut opening.receiver };
+                *code = names::wrong_text_at(random, character);
             }
-            others = usize::from(random.percent(25));
+            WrongRule::AndOther => spoil_n_lead_or_day(random, &mut opening),
+            _ => {}
         }
-        for _ in 0..others {
-            let code = if random.percent(50) { &mut *area } else { &mut *receiver };
-            match random.below(16) {
-                0 => *n = random.pick(&[0, 91, 93, 95, 97, 99, 101, 255, 24]),
-                1 => *lead = random.pick(&[65_535, 2_880]),
-                2 | 3 => *lead = LONGEST_LEAD + 1,
-                4 => {
-                    if let Some(digit) = day.last_mut() {
-                        *digit = random.pick(b"/: A\0");
-                    }
-                }
-                5 => {
-                    day.pop();
-                }
-                6 | 7 => *code = names::invalid_eic(random).to_vec(),
-                8..=12 => *code = names::hyphen_eic(random).to_vec(),
-                13 | 14 if code.len() < MOST_TEXT_BYTES => code.push(b'0'),
-                _ => {
-                    code.pop();
-                }
+        Record::OpenBy { rule, opening }
+    }
+
+    /// One parameter made unlawful.
+    fn spoil_parameter(&mut self, opening: &mut Opening) {
+        let random = &mut self.random;
+        let code = if random.percent(50) { &mut opening.area } else { &mut opening.receiver };
+        match random.below(16) {
+            0..=5 => spoil_n_lead_or_day(random, opening),
+            6 | 7 => *code = names::invalid_eic(random).to_vec(),
+            8..=12 => *code = names::hyphen_eic(random).to_vec(),
+            13 | 14 if code.len() < MOST_TEXT_BYTES => code.push(b'0'),
+            _ => {
+                code.pop();
             }
         }
-        opening
     }
 
     /// Opens the book again in the midst of an episode, or tries to.
     pub(super) fn reopen(&mut self) {
-        let open = if self.random.percent(70) { self.wrong_opening() } else { self.opening() };
+        let open = if self.random.percent(85) { self.wrong_opening() } else { self.lawful_opening() };
         self.queue.push_back(open);
         self.queue.push_back(Record::Sum);
     }
@@ -193,9 +267,8 @@ impl Generator {
         let mut target = self.crafted_book(&shape);
         let random = &mut self.random;
         if random.percent(25) {
-            if let Some((_, broken)) =
-                self.breaches.deal_serving(random, |random, breach| break_book(random, &target, breach))
-            {
+            let breach = random.pick(Breach::ALL);
+            if let Some(broken) = break_book(random, &target, breach) {
                 target = broken;
                 if random.percent(40) {
                     flip_and_reseal(random, &mut target);
@@ -204,10 +277,10 @@ impl Generator {
         }
         let sound = is_sound(&target);
         self.set_book(book, &target);
-        self.large_messages = self.large_messages.min(4);
+        self.large_messages = self.large_messages.min(6);
         self.left = match self.episode {
             _ if !sound => self.random.between(1, 5),
-            Episode::Full | Episode::Long => self.random.between(10, 18),
+            Episode::Full | Episode::Long => self.random.between(12, 20),
             _ => self.random.between(4, 40),
         };
         if !sound {
@@ -281,5 +354,22 @@ impl Generator {
             self.judge_and_show(message.clone());
         }
         self.submit_and_show(book, message);
+    }
+}
+
+/// One of the parameters that are no codes made unlawful.
+fn spoil_n_lead_or_day(random: &mut Random, opening: &mut Opening) {
+    match random.below(6) {
+        0 => opening.n = random.pick(&[0, 91, 93, 95, 97, 99, 101, 255, 24]),
+        1 => opening.lead = random.pick(&[65_535, 2_880]),
+        2 | 3 => opening.lead = LONGEST_LEAD + 1,
+        4 => {
+            if let Some(digit) = opening.day.last_mut() {
+                *digit = random.pick(b"/: A\0");
+            }
+        }
+        _ => {
+            opening.day.pop();
+        }
     }
 }

@@ -127,8 +127,8 @@ impl Generator {
             draft.spoil_code(random, WrongCode::Sender, character, &self.partners);
         }
         let mut faults = vec![self.forms.deal(random)];
-        if faults[0] == FormFault::TooLong && random.percent(50) {
-            // The long one is large; half as often is often enough.
+        if faults[0] == FormFault::TooLong && random.percent(25) {
+            // The long one is large; a little less often is often enough.
             faults[0] = self.forms.deal(random);
         }
         for _ in 0..random.pick(&[0, 0, 0, 0, 1, 2]) {
