@@ -84,7 +84,7 @@ int main(void) {
 
     tetherbay_clock_answer c = tetherbay_clock(book, sizeof book, MIDNIGHT);
     printf("clock: number %u, n %u, lead %u, minute %d of the day\n", c.number, c.state.n, c.state.lead, c.state.clock - MIDNIGHT);
-    print_final(2); /* closed: the seller's quantity counts */
+    print_final(2); /* closed: the lesser of 45.000 and 44.000 counts */
     print_final(4); /* open for as long as the clock is not past this minute: 25 */
     uint8_t text[6000];
     printf("%.*s", (int)tetherbay_listing(book, sizeof book, text, sizeof text), (const char *)text);

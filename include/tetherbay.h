@@ -96,11 +96,19 @@ typedef struct {
     uint8_t character;
 } tetherbay_open_answer;
 
-/* Opens a book for a day of n quarter-hours, whose positions close `lead` minutes before they begin. Alters the book: writes the day block and frees every
-   slot, whatever the buffer held. 0; 20 where the length is not that of 2 to 1,001 blocks; else 21 where n is not 92, 96 or 100, the lead above 1,440, the day not
-   eight digits, or the area or the receiver not a valid EIC. */
+/* Opens a book for a day of n quarter-hours, whose positions close `lead` minutes before they begin, and which settles at the lesser of two quantities. Alters
+   the book: writes the day block and frees every slot, whatever the buffer held. 0; 20 where the length is not that of 2 to 1,001 blocks; else 21 where n is not
+   92, 96 or 100, the lead above 1,440, the day not eight digits, or the area or the receiver not a valid EIC. */
 tetherbay_open_answer tetherbay_open(uint8_t *book, size_t length, uint8_t n, uint16_t lead, const uint8_t *day, size_t day_length, const uint8_t *area,
                                      size_t area_length, const uint8_t *receiver, size_t receiver_length);
+
+/* The rule by which a book's final values are chosen, as byte 6 of its day block names it; no call but an opening writes it. Books from before the lesser rule
+   have 0 there, and keep their finals. */
+enum { TETHERBAY_SELLERS = 0, TETHERBAY_LESSER = 1 };
+
+/* The same by a rule that is named: tetherbay_open is this call with TETHERBAY_LESSER. 21 also where the rule is neither of the two. */
+tetherbay_open_answer tetherbay_open_by(uint8_t *book, size_t length, uint8_t n, uint16_t lead, uint8_t rule, const uint8_t *day, size_t day_length,
+                                        const uint8_t *area, size_t area_length, const uint8_t *receiver, size_t receiver_length);
 
 /* Converts a book of the old layout, whose series keep a state of 1 to 3 in byte 104, where the present one keeps at how many positions the counterpart differs.
    Convert before any other call: an old book is taken for one of the present layout, and its states for such counts. Alters the book: every mark and all
@@ -170,8 +178,9 @@ typedef struct {
     uint32_t kilowatts;
 } tetherbay_final_answer;
 
-/* The final value of a trade at a position: the seller's quantity, 0 where only the buyer keeps the trade. The book is only read. 1 where it is not sound; else
-   24 where the position is 0 or above n; else 25 where it is not closed yet; else 26 where neither party keeps a series of the two. */
+/* The final value of a trade at a position, by the book's rule: the lesser of the seller's and the buyer's quantity, or the seller's; a side that keeps no such
+   series counts 0, so that by the lesser rule a trade that one side alone keeps settles at 0. The book is only read. 1 where it is not sound; else 24 where the
+   position is 0 or above n; else 25 where it is not closed yet; else 26 where neither party keeps a series of the two. */
 tetherbay_final_answer tetherbay_final(const uint8_t *book, size_t length, const uint8_t *seller, size_t seller_length, const uint8_t *buyer, size_t buyer_length,
                                        size_t position);
 

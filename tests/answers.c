@@ -119,7 +119,15 @@ static void openings(void) {
     opened("open, n and receiver", tetherbay_open(book, length, 93, 1440, day, 8, area, 16, wrong_receiver, 16), 21, 16);
     opened("open, an area of fifteen", tetherbay_open(book, length, 100, 1440, day, 8, area, 15, receiver, 16), 21, 16);
     opened("open, an area of five", tetherbay_open(book, length, 100, 1440, day, 8, area, 5, receiver, 16), 21, 6);
+    opened("open by a third rule", tetherbay_open_by(book, length, 100, 1440, 2, day, 8, area, 16, receiver, 16), 21, 0);
+    opened("open by a rule of 255, area", tetherbay_open_by(book, length, 100, 1440, 255, day, 8, wrong_area, 16, receiver, 16), 21, 7);
+    opened("open by a third rule, another length", tetherbay_open_by(book, length - 1, 100, 1440, 2, day, 8, area, 16, receiver, 16), 20, 0);
+    opened("open by the seller's rule", tetherbay_open_by(book, length, 100, 1440, TETHERBAY_SELLERS, day, 8, area, 16, receiver, 16), 0, 0);
+    is("the seller's rule", book[6], 0);
+    opened("open by the lesser rule", tetherbay_open_by(book, length, 100, 1440, TETHERBAY_LESSER, day, 8, area, 16, receiver, 16), 0, 0);
+    is("the lesser rule", book[6], 1);
     opened("open", tetherbay_open(book, length, 100, 1440, day, 8, area, 16, receiver, 16), 0, 0);
+    is("the rule of an opening that names none", book[6], 1);
 }
 
 static void seal_message(void) {
@@ -230,7 +238,16 @@ static void readings(void) {
 
     tetherbay_final_answer f = tetherbay_final(book, sizeof book, one, 16, two, 16, 100);
     is("final, number", f.number, 0);
-    is("final, kilowatts", f.kilowatts, 9999999);
+    is("final, the lesser", f.kilowatts, 7);
+    is("final where both agree", tetherbay_final(book, sizeof book, one, 16, two, 16, 99).kilowatts, 9999998);
+    f = tetherbay_final(book, sizeof book, eic(3), 16, two, 16, 100);
+    is("final of a lone side, number", f.number, 0);
+    is("final of a lone side", f.kilowatts, 0);
+    book[6] = TETHERBAY_SELLERS; /* as a book on file has it */
+    tetherbay_seal(book, BLOCK);
+    is("final, the seller's", tetherbay_final(book, sizeof book, one, 16, two, 16, 100).kilowatts, 9999999);
+    book[6] = TETHERBAY_LESSER;
+    tetherbay_seal(book, BLOCK);
     is("final, 24", tetherbay_final(book, sizeof book, one, 16, two, 16, SIZE_MAX).number, 24);
     is("final, 26", tetherbay_final(book, sizeof book, two, 16, one, 16, 1).number, 26);
     is("plain run, number", tetherbay_plain_run(book, sizeof book).number, 0);
@@ -263,7 +280,10 @@ int main(void) {
     readings();
     conversions();
     is("sound", tetherbay_sound(book, sizeof book), true);
-    put(book + 6, 1, 1);
+    put(book + 6, 1, 2);
+    tetherbay_seal(book, BLOCK);
+    is("sound, a third rule", tetherbay_sound(book, sizeof book), false);
+    put(book + 6, 2, TETHERBAY_LESSER | 1 << 8);
     tetherbay_seal(book, BLOCK);
     is("sound, a byte that must be 0", tetherbay_sound(book, sizeof book), false);
     is("plain run, 1", tetherbay_plain_run(book, sizeof book).number, 1);

@@ -258,16 +258,23 @@ static void call_sound(void) {
 }
 
 /* What the book held is of no account, but its length and the parameters are. */
-static void call_open(void) {
+static void open_lent(bool by) {
     static const uint8_t days[] = {92, 96, 100};
     uint8_t *b = lend_book(&written_book);
     memcpy(content, "20190131", 8);
     if (one_in(8)) content[below(8)] = (uint8_t)below(256);
     const uint8_t *day = lend(&fields[0], content, one_in(8) ? below(17) : 8);
     const uint8_t *area = lend_field(1, 24), *receiver = lend_field(2, 40);
-    tetherbay_open(b, lent_length, one_in(8) ? (uint8_t)below(256) : days[below(3)], (uint16_t)(one_in(8) ? below(65536) : below(1441)), day, fields[0].length, area,
-                   fields[1].length, receiver, fields[2].length);
+    uint8_t n = one_in(8) ? (uint8_t)below(256) : days[below(3)];
+    uint16_t lead = (uint16_t)(one_in(8) ? below(65536) : below(1441));
+    if (by) {
+        uint8_t rule = one_in(4) ? (uint8_t)below(256) : (uint8_t)below(2);
+        tetherbay_open_by(b, lent_length, n, lead, rule, day, fields[0].length, area, fields[1].length, receiver, fields[2].length);
+    } else tetherbay_open(b, lent_length, n, lead, day, fields[0].length, area, fields[1].length, receiver, fields[2].length);
 }
+
+static void call_open(void) { open_lent(false); }
+static void call_open_by(void) { open_lent(true); }
 
 static uint32_t conversions[2];
 
@@ -369,6 +376,7 @@ static const struct {
     {"tetherbay_reply", call_reply},
     {"tetherbay_sound", call_sound},
     {"tetherbay_open", call_open},
+    {"tetherbay_open_by", call_open_by},
     {"tetherbay_convert", call_convert},
     {"tetherbay_clock", call_clock},
     {"tetherbay_submit", call_submit},

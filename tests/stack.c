@@ -78,6 +78,7 @@ static void call_final(void) { answer = tetherbay_final(book, sizeof book, other
 static void call_plain_run(void) { answer = tetherbay_plain_run(book, sizeof book).number; }
 static void call_listing(void) { answer = tetherbay_listing(small, sizeof small, text, sizeof text); }
 static void call_series(void) { answer = tetherbay_series(message, message_length, MOST_SERIES).length; }
+static void call_open_by(void) { answer = tetherbay_open_by(book, sizeof book, N, 45, TETHERBAY_SELLERS, day(), 8, party, 16, other, 16).number; }
 static void call_open(void) { answer = tetherbay_open(book, sizeof book, N, 45, day(), 8, party, 16, other, 16).number; }
 
 /* Those that alter the book come last. */
@@ -107,6 +108,7 @@ static struct {
     {"tetherbay_submit", call_submit, 0},
     {"tetherbay_convert", call_convert, 0},
     {"tetherbay_clock", call_clock, 0},
+    {"tetherbay_open_by", call_open_by, 0},
     {"tetherbay_open", call_open, 0},
 };
 

@@ -4,7 +4,8 @@ use Rattle.laws.specs.Base.{cond, [], _∷_, _++_, ℕ, zero, suc, _+_, _-_, _*
 use Rattle.laws.specs.Tests.{is, upto}
 use Rattle.laws.specs.Bytes.{written, little}
 use Rattle.paper.specs.Check.{sealed}
-use Rattle.paper.specs.Layout.{Bytes, Block}
+use Rattle.paper.specs.declared.Rule.{Rule}
+use Rattle.paper.specs.Layout.{Bytes, Block, sellersRule}
 use Rattle.paper.specs.Opening.{Opening, opened}
 use Rattle.paper.specs.Clock.{clockMoved}
 use Rattle.paper.specs.Acceptance.{submitted}
@@ -122,8 +123,12 @@ withAgreement i y = over 88 i y
 
 -- ---- books
 
+unfoldable pub parametersBy : (rule : Rule) (lead : ℕ) → Opening
+parametersBy rule lead = record { n = 96; lead = lead; rule = rule; day = day; area = area; receiver = receiver }
+
+-- by the seller's rule, which is that of document 01
 unfoldable pub parameters : (lead : ℕ) → Opening
-parameters lead = record { n = 96; lead = lead; day = day; area = area; receiver = receiver }
+parameters lead = parametersBy sellersRule lead
 
 -- opened, with lead 45
 unfoldable pub bookOf : (slots : ℕ) → Bytes
@@ -150,5 +155,5 @@ bought slots = after (sold slots) (head buyer 1 1 ++ purchase 1 (butAt 2 44000 (
 
 -- ---- to name it on an `unfolding` line opens all of these
 unfoldable pub examples : ℕ
-unfolding area receiver seller buyer stranger nobody day id head steady butAt quantitiesFrom series sale purchase buyback over withN withVersion withId withReceiver withDay withBusinessType withContractType withInArea withOutArea withAgreement parameters bookOf minute late after sold bought
+unfolding area receiver seller buyer stranger nobody day id head steady butAt quantitiesFrom series sale purchase buyback over withN withVersion withId withReceiver withDay withBusinessType withContractType withInArea withOutArea withAgreement parametersBy parameters bookOf minute late after sold bought
 examples = 0

@@ -6,8 +6,8 @@ use Rattle.laws.specs.Bytes.{part, written, value, little, number}
 use Rattle.laws.specs.Cut.{chunks, cut, join}
 use Rattle.laws.specs.Order.{first as firstRefusal, along}
 use Rattle.paper.specs.Check.{checkStep, checkFrom, checkOf, checkRight, sealed}
-use Rattle.paper.specs.Layout.{zeros, kind, nOf, lead, clockPlus10080, dayOfBook, area, receiver, dayZeros, version, idOf, seriesCount, sender, dayOfMessage, nets, net, senderZeros, businessType, contractType, sendersSlot, inArea, outArea, inParty, outParty, pair, agreement, mark, differing, first, partner, quantities, entry, quantity, aboveN, senderZerosInMessage, seriesZerosInMessage, withClock, withSendersSlot, withMark, withNets}
-use Rattle.paper.specs.Ranges.{wholeBlocks, nAllowed, leadAllowed, clockAllowed, versionAllowed, countAllowed, quantityAllowed, netAllowed, quantitiesAllowed, netsAllowed}
+use Rattle.paper.specs.Layout.{zeros, kind, nOf, lead, clockPlus10080, ruleOf, sameRule, dayOfBook, area, receiver, dayZeros, version, idOf, seriesCount, sender, dayOfMessage, nets, net, senderZeros, businessType, contractType, sendersSlot, inArea, outArea, inParty, outParty, pair, agreement, mark, differing, first, partner, quantities, entry, quantity, aboveN, senderZerosInMessage, seriesZerosInMessage, withClock, withSendersSlot, withMark, withNets}
+use Rattle.paper.specs.Ranges.{wholeBlocks, nAllowed, leadAllowed, clockAllowed, ruleAllowed, versionAllowed, countAllowed, quantityAllowed, netAllowed, quantitiesAllowed, netsAllowed}
 use Rattle.paper.specs.Ids.{digit, letter, hyphen, idCharacter, idText, idWellFormed, dayWellFormed}
 use Rattle.paper.specs.Eic.{characterValue, eicCharacter, weighted, eicSum, allowedInFront, sixteenthRight, eicNumber, eicNumberOfTwo, eicValid}
 use Rattle.paper.specs.Book.{dayBlock, slots, isFree, used, freeSlots, isSender, isSeries, numbered, isSenderBlockOf, slotOf, isSeriesOf, ownSender, ownSeries, idIs, pairIs, isSeriesOfPair}
@@ -18,7 +18,7 @@ use Rattle.paper.specs.Codes.{table, codeIn, reasonCode, statusCode, replyKind,
 use Rattle.paper.specs.Marks.{isCounterpart, counterpart, counterpartSlot, differenceFrom, firstDifference, differences, markOf, markIn, stateOfMark, stateCode, markCode}
 use Rattle.paper.specs.Nets.{bought, sold, netOf, netsTo, netsOf}
 use Rattle.paper.specs.Acceptance.{slotFor, senderKept, replaced, renewed, fresh, placed, touched, remarked, usedAfter, accepted, submitted}
-use Rattle.paper.specs.Finals.{finalOf, held, isHeld, heldAt, finalIn, final}
+use Rattle.paper.specs.Finals.{lesserOf, finalOf, held, isHeld, heldAt, finalIn, final}
 use Rattle.paper.specs.Opening.{dayBlockOf, openingAllowed, openNumber, openAnswer, opened}
 use Rattle.paper.specs.Clock.{dayState, advanced, clockAnswer, clockMoved}
 use Rattle.paper.specs.Readings.{isStoredAs, storedAs, markFound, markAnswer, acceptedBlock}
@@ -36,7 +36,7 @@ general = 0
 
 -- "Blocks"
 unfoldable pub blocks : ℕ
-unfolding checkStep checkFrom checkOf checkRight sealed zeros kind nOf lead clockPlus10080 dayOfBook area receiver dayZeros version idOf seriesCount sender dayOfMessage nets net senderZeros businessType contractType sendersSlot inArea outArea inParty outParty pair agreement mark differing first partner quantities entry quantity aboveN senderZerosInMessage seriesZerosInMessage withClock withSendersSlot withMark withNets wholeBlocks nAllowed leadAllowed clockAllowed versionAllowed countAllowed quantityAllowed netAllowed quantitiesAllowed netsAllowed digit letter hyphen idCharacter idText idWellFormed dayWellFormed
+unfolding checkStep checkFrom checkOf checkRight sealed zeros kind nOf lead clockPlus10080 ruleOf sameRule dayOfBook area receiver dayZeros version idOf seriesCount sender dayOfMessage nets net senderZeros businessType contractType sendersSlot inArea outArea inParty outParty pair agreement mark differing first partner quantities entry quantity aboveN senderZerosInMessage seriesZerosInMessage withClock withSendersSlot withMark withNets wholeBlocks nAllowed leadAllowed clockAllowed ruleAllowed versionAllowed countAllowed quantityAllowed netAllowed quantitiesAllowed netsAllowed digit letter hyphen idCharacter idText idWellFormed dayWellFormed
 blocks = 0
 
 -- "EIC"
@@ -56,7 +56,7 @@ orderOfChecks = 0
 
 -- "Marks and finals", and what an acceptance writes
 unfoldable pub marksAndFinals : ℕ
-unfolding isCounterpart counterpart counterpartSlot differenceFrom firstDifference differences markOf markIn stateOfMark stateCode markCode bought sold netOf netsTo netsOf slotFor senderKept replaced renewed fresh placed isSeriesOfPair touched remarked usedAfter accepted submitted finalOf held isHeld heldAt finalIn final
+unfolding isCounterpart counterpart counterpartSlot differenceFrom firstDifference differences markOf markIn stateOfMark stateCode markCode bought sold netOf netsTo netsOf slotFor senderKept replaced renewed fresh placed isSeriesOfPair touched remarked usedAfter accepted submitted lesserOf finalOf held isHeld heldAt finalIn final
 marksAndFinals = 0
 
 -- "Other calls"

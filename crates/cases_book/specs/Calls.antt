@@ -5,7 +5,7 @@ use Rattle.paper.specs.Layout.{Bytes}
 use Rattle.paper.specs.Message.{seriesNumbered}
 use Rattle.paper.specs.Codes.{reasonCode, statusCode, acknowledgement, uninterpretableMessage, deskNotice, replyTo}
 use Rattle.paper.specs.Marks.{stateCode, markCode}
-use Rattle.paper.specs.Opening.{openNumber, opened}
+use Rattle.paper.specs.Opening.{namingNone, openNumber, opened}
 use Rattle.paper.specs.Clock.{clockAnswer, clockMoved}
 use Rattle.paper.specs.Readings.{acceptedBlock}
 use Rattle.paper.specs.Listing.{text, header, listing}
@@ -76,7 +76,7 @@ codes = refl
 
 -- a buffer of some length
 abbrev pub opening : (length n lead : ℕ) (date area receiver : Bytes) → List ℕ
-opening length n lead date area receiver = openNumber (replicate length 7) (record { n = n; lead = lead; day = date; area = area; receiver = receiver }) ∷ []
+opening length n lead date area receiver = openNumber (replicate length 7) (namingNone n lead date area receiver) ∷ []
 
 unfoldable pub ofOpening : List Case
 ofOpening =

@@ -2,7 +2,7 @@
 use Rattle.laws.specs.Base.{_≡_, refl, List, [], _∷_, _++_, ℕ, take, replicate}
 use Rattle.paper.specs.declared.OpenAnswer.{OpenAnswer}
 use Rattle.paper.specs.Layout.{Bytes}
-use Rattle.paper.specs.Opening.{openAnswer}
+use Rattle.paper.specs.Opening.{namingNone, openAnswer}
 use Rattle.paper.specs.Listing.{text}
 use Rattle.cases.specs.Case.{Case, _gives_, wrong, once, character, submission, good, wrongAt, broken, brokenBy}
 use Rattle.cases.specs.Opened.{paper}
@@ -54,7 +54,7 @@ abbrev pub toldByOpening : OpenAnswer → List ℕ
 toldByOpening a = a .number ∷ a .character ∷ []
 
 abbrev pub opening : (length n : ℕ) (area receiver : Bytes) → List ℕ
-opening length n area receiver = toldByOpening (openAnswer (replicate length 7) (record { n = n; lead = 45; day = day; area = area; receiver = receiver }))
+opening length n area receiver = toldByOpening (openAnswer (replicate length 7) (namingNone n 45 day area receiver))
 
 unfoldable pub ofOpening : List Case
 ofOpening =

@@ -7,7 +7,7 @@ use Rattle.paper.specs.Check.{checkOf}
 use Rattle.paper.specs.Layout.{Bytes, version}
 use Rattle.paper.specs.Eic.{eicNumber}
 use Rattle.paper.specs.QuantityText.{quantityRead}
-use Rattle.paper.specs.Opening.{Opening, openNumber, opened}
+use Rattle.paper.specs.Opening.{Opening, namingNone, openNumber, opened}
 use Rattle.paper.specs.Clock.{clockAnswer, clockMoved}
 use Rattle.paper.specs.Finals.{final}
 use Rattle.paper.specs.Readings.{acceptedBlock}
@@ -22,13 +22,14 @@ use Rattle.desk_text.specs.Arguments.{commandNumber, wordValue}
 use Rattle.listing_text.specs.Text.{textLength, textInto}
 use Rattle.message_text.specs.MessageText.{messageText}
 use Rattle.message_text.specs.declared.TextRead.{TextRead}
-use Rattle.cases.specs.Examples.{seller, buyer, id, parameters}
+use Rattle.cases.specs.Examples.{area, receiver, seller, buyer, day, id}
 use Rattle.site_leaves.specs.Leaves.{numberIn, blockWith}
 
 -- ---- what a row's arguments say
 
+-- one that names no rule
 unfoldable pub opening : (lead : Bytes) → Opening
-opening lead = parameters (wordValue (numberIn lead))
+opening lead = namingNone 96 (wordValue (numberIn lead)) day area receiver
 
 unfoldable pub minuteIn : (minute : Bytes) → ℕ
 minuteIn minute = (minuteRead minute) .minute .0

@@ -9,11 +9,11 @@ fn take(i: usize, words: &mut [u8], at: usize) -> usize {
     put(words, end, b"\0")
 }
 
-// No command has more than ten. What is missing is an empty word.
+// No command has more than eleven. What is missing is an empty word.
 pub fn take_all(words: &mut [u8]) {
     let mut at = 0;
     let mut i = 0;
-    while i < 10 {
+    while i < 11 {
         at = take(i, words, at);
         i += 1;
     }

@@ -4,6 +4,7 @@ mod arguments;
 use desk_answers::Change;
 use desk_answers::Numbers;
 use desk_answers::Question;
+use desk_answers::words::opening_words;
 use desk_files::ask;
 use desk_files::ask_alone;
 use desk_files::change;
@@ -11,11 +12,10 @@ use desk_files::say;
 use desk_text::numbers::minute_read;
 use desk_text::numbers::number_read;
 use desk_text::words::word;
-use field::same;
 
 fn usage() {
     say(
-        b"wrong use: desk COMMAND ...\n  desk open BOOK BLOCKS N LEAD DAY AREA RECEIVER   a new book; BLOCKS 2 to 1001, N 92, 96 or 100, LEAD in minutes, DAY as 20190131; the word replace behind it replaces a file that is there\n  desk clock BOOK MINUTE                           minutes from the day's start, -10080 to 1500\n  desk submit BOOK MESSAGE                         a message in a file\n  desk convert BOOK                                every mark and net of a book of the old layout written by the plain rule\n  desk mark BOOK SENDER ID                         the mark of a series\n  desk block BOOK SENDER ID                        the accepted block of a series\n  desk final BOOK SELLER BUYER POSITION            the final value at a closed position\n  desk plain BOOK                                  whether every kept mark and net is true\n  desk list BOOK                                   the listing of a book of at most 64 blocks\n  desk message TEXT MESSAGE                        a message made from its text form\n  desk eic CODE                                    whether a code is a valid EIC, or which character is wrong\n  desk kw TEXT                                     a quantity text in MW, read and printed\n  desk commission                                  whether this desk may be put into service\n",
+        b"wrong use: desk COMMAND ...\n  desk open BOOK BLOCKS N LEAD DAY AREA RECEIVER   a new book; BLOCKS 2 to 1001, N 92, 96 or 100, LEAD in minutes, DAY as 20190131; the word seller behind it has the book settle at the seller's quantity, lesser or none at the lesser of the two; the word replace at the end replaces a file that is there\n  desk clock BOOK MINUTE                           minutes from the day's start, -10080 to 1500\n  desk submit BOOK MESSAGE                         a message in a file\n  desk convert BOOK                                every mark and net of a book of the old layout written by the plain rule\n  desk mark BOOK SENDER ID                         the mark of a series\n  desk block BOOK SENDER ID                        the accepted block of a series\n  desk final BOOK SELLER BUYER POSITION            the final value at a closed position\n  desk plain BOOK                                  whether every kept mark and net is true\n  desk list BOOK                                   the listing of a book of at most 64 blocks\n  desk message TEXT MESSAGE                        a message made from its text form\n  desk eic CODE                                    whether a code is a valid EIC, or which character is wrong\n  desk kw TEXT                                     a quantity text in MW, read and printed\n  desk commission                                  whether this desk may be put into service\n",
     );
 }
 
@@ -56,18 +56,10 @@ fn final_value(words: &[u8]) {
     ask(Question::Final(position.value as usize), words);
 }
 
-// An opening has one word more where it is to replace a file.
-fn arguments_of_open(words: &[u8]) -> usize {
-    if same(word(words, 9), b"replace") {
-        return 10;
-    }
-    9
-}
-
 // How many arguments the program is started with for a command, its own name among them; never 0, which stands for no command.
 fn arguments_of(command: usize, words: &[u8]) -> usize {
     match command {
-        1 => arguments_of_open(words),
+        1 => opening_words(words),
         2 | 3 | 9 => 4,
         4 | 5 => 5,
         6 => 6,
@@ -105,9 +97,9 @@ fn command(words: &[u8]) {
     run(command, words);
 }
 
-// Room for ten arguments of 4,096 bytes, with the zero byte behind each.
+// Room for eleven arguments of 4,096 bytes, with the zero byte behind each.
 fn main() {
-    let mut words = [0u8; 40970];
+    let mut words = [0u8; 45067];
     arguments::take_all(&mut words);
     command(&words);
 }

@@ -7,10 +7,11 @@ ghost use Rattle.paper.specs.Clock.{clockAnswer, clockMoved};
 ghost use Rattle.paper.specs.Conversion.{conversionNumber, converted};
 ghost use Rattle.desk_lines.specs.Lines.{verdictLine, openLine, clockLine, conversionLine};
 ghost use Rattle.desk_text.specs.Words.{wordNumbered};
-ghost use Rattle.desk_answers.specs.Answers.{Tells, opening, blockNamed, changeNumber, changeLine, changed};
+ghost use Rattle.desk_answers.specs.Answers.{Tells, ruleNamed, opening, blockNamed, changeNumber, changeLine, changed};
 use crate::Change;
 use crate::Numbers;
 use crate::Told;
+use crate::words::rule_named;
 use desk_lines::clock_line;
 use desk_lines::conversion_line;
 use desk_lines::open_line;
@@ -21,21 +22,23 @@ use desk_text::words::word;
 use paper::Minute;
 use slots::block_at;
 
-// The line tells of the area's code first, then of the receiver's.
+// The line tells the rule of a new book, else of the area's code first, then of the receiver's.
 fn open_told(book: &mut [u8], numbers: Numbers, words: &[u8], line: &mut [u8]) -> Told
-    ensures { λ r. ⌜ Tells ((openAnswer (now (book .entry)) (opening numbers (now (words .entry)))) .number) (openLine (openAnswer (now (book .entry)) (opening numbers (now (words .entry)))) (wordNumbered 7 (now (words .entry))) (wordNumbered 8 (now (words .entry)))) r (now (line .entry)) (now (line .exit)) × (now (book .exit) ≡ opened (now (book .entry)) (opening numbers (now (words .entry)))) ⌝ }
+    ensures { λ r. ⌜ Tells ((openAnswer (now (book .entry)) (opening numbers (now (words .entry)))) .number) (openLine (openAnswer (now (book .entry)) (opening numbers (now (words .entry)))) (ruleNamed (now (words .entry))) (wordNumbered 7 (now (words .entry))) (wordNumbered 8 (now (words .entry)))) r (now (line .entry)) (now (line .exit)) × (now (book .exit) ≡ opened (now (book .entry)) (opening numbers (now (words .entry)))) ⌝ }
 {
     let area = word(words, 7);
     let receiver = word(words, 8);
-    let opened = opening::open(
+    let rule = rule_named(words);
+    let opened = opening::open_by(
         book,
         byte_value(numbers.n),
         word_value(numbers.lead),
+        rule,
         word(words, 6),
         area,
         receiver,
     );
-    let length = open_line(line, opened, area, receiver);
+    let length = open_line(line, opened, rule, area, receiver);
     Told {
         number: opened.number,
         length,

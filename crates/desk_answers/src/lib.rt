@@ -1,6 +1,7 @@
 // Each command's answer: the call, and the line that tells it. What is left to the program is the moving of bytes.
 pub mod changes;
 pub mod questions;
+pub mod words;
 
 use paper::Minute;
 
@@ -17,7 +18,7 @@ pub struct Numbers {
     pub lead: u32,
 }
 
-// What changes a book: an opening, whose day, area and receiver are words of the command; a minute; a message; the conversion of a book of the old layout.
+// What changes a book: an opening, whose day, area, receiver and rule are words of the command; a minute; a message; the conversion of a book of the old layout.
 pub enum Change {
     Open(Numbers),
     Clock(Minute),

@@ -1,6 +1,8 @@
 // The calls that read a book, and those that need none.
 ghost use Rattle.paper.specs.Eic.{eicNumber};
 ghost use Rattle.paper.specs.QuantityText.{quantityRead};
+ghost use Rattle.paper.specs.Layout.{ruleOf};
+ghost use Rattle.paper.specs.Book.{dayBlock};
 ghost use Rattle.paper.specs.Readings.{markAnswer, acceptedBlock};
 ghost use Rattle.paper.specs.Finals.{final};
 ghost use Rattle.paper.specs.PlainRun.{plainRun};
@@ -12,6 +14,8 @@ ghost use Rattle.desk_answers.specs.Answers.{Answered};
 use crate::Question;
 use desk_text::arguments::id_field;
 use desk_text::words::word;
+use field::part_of;
+use layout::rule_of;
 use paper::Position;
 
 fn mark_told(book: &[u8], words: &[u8], line: &mut [u8]) -> usize
@@ -32,11 +36,12 @@ fn block_told(book: &[u8], words: &[u8], line: &mut [u8]) -> usize
     desk_lines::block_line(line, number, readings::accepted_block(book, sender, &id))
 }
 
+// The rule is that of the book's day block.
 fn final_told(book: &[u8], words: &[u8], position: usize, line: &mut [u8]) -> usize
-    ensures { λ r. ⌜ Put 0 (finalLine (final (now (book .entry)) (wordNumbered 3 (now (words .entry))) (wordNumbered 4 (now (words .entry))) position)) r (now (line .entry)) (now (line .exit)) ⌝ }
+    ensures { λ r. ⌜ Put 0 (finalLine (final (now (book .entry)) (wordNumbered 3 (now (words .entry))) (wordNumbered 4 (now (words .entry))) position) (ruleOf (dayBlock (now (book .entry))))) r (now (line .entry)) (now (line .exit)) ⌝ }
 {
     let answer = readings::final_value(book, word(words, 3), word(words, 4), Position(position));
-    desk_lines::final_line(line, answer)
+    desk_lines::final_line(line, answer, rule_of(part_of(book, 0, 512)))
 }
 
 fn plain_told(book: &[u8], line: &mut [u8]) -> usize

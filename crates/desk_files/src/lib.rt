@@ -3,13 +3,13 @@ ghost use mathlib.Core.Path.{_≡_};
 use desk_answers::Change;
 use desk_answers::Question;
 use desk_answers::Told;
+use desk_answers::words::replaces;
 use desk_text::arguments::book_length;
 use desk_text::arguments::folder_length;
 use desk_text::arguments::put_beside;
 use desk_text::words::piece_numbered;
 use desk_text::words::word;
 use field::part_of;
-use field::same;
 use field::within;
 use libc::STDOUT_FILENO;
 
@@ -201,9 +201,8 @@ fn run(what: Change, fd: i32, name: &[u8], path: &[u8], book: &mut [u8], given: 
     settle(fd, name, path, told, book, &line);
 }
 
-// A file that is there is replaced by a new book only on purpose, by the last word of the command.
 fn room_of_new(blocks: u32, path: &[u8], words: &[u8]) -> usize {
-    if same(word(words, 9), b"replace") {
+    if replaces(words) {
         return book_length(blocks);
     }
     let fd = os::open_read(path);

@@ -4,6 +4,7 @@ use mathlib.Core.List.{[], _∷_, _++_}
 use Prim.Native.Nat.{ℕ, zero, suc}
 use Rattle.laws.specs.Tests.{is, less}
 use Rattle.paper.specs.declared.DayState.{DayState}
+use Rattle.paper.specs.declared.Rule.{Rule}
 use Rattle.paper.specs.declared.Verdict.{Verdict}
 use Rattle.paper.specs.declared.OpenAnswer.{OpenAnswer}
 use Rattle.paper.specs.declared.ClockAnswer.{ClockAnswer}
@@ -11,7 +12,7 @@ use Rattle.paper.specs.declared.MarkAnswer.{MarkAnswer}
 use Rattle.paper.specs.declared.FinalAnswer.{FinalAnswer}
 use Rattle.paper.specs.declared.PlainRunAnswer.{PlainRunAnswer}
 use Rattle.paper.specs.declared.QuantityRead.{QuantityRead}
-use Rattle.paper.specs.Layout.{Bytes, Block, nOf, version, idOf, inParty, outParty, differing, first, partner, quantities, entry}
+use Rattle.paper.specs.Layout.{Bytes, Block, nOf, lesserRule, sameRule, version, idOf, inParty, outParty, differing, first, partner, quantities, entry}
 use Rattle.paper.specs.Ids.{idText}
 use Rattle.paper.specs.Codes.{reasonCode, replyTo}
 use Rattle.paper.specs.Marks.{stateOfMark, markCode}
@@ -53,8 +54,12 @@ unfoldable pub verdictLine : (v : Verdict) (x : Block) → Bytes
 verdictLine v x =
     answerText (v .number) (v .code) (v .series) (v .position .0) ++ verdictFault v x ++ replyText (replyTo (v .number)) ++ text "\n"
 
-unfoldable pub openLine : (a : OpenAnswer) (area receiver : Bytes) → Bytes
-openLine a area receiver = answerOf (a .number) ++ openingFault area receiver (a .character) ++ text "\n"
+-- by which rule a new book settles
+unfoldable pub settlingText : (rule : Rule) → Bytes
+settlingText rule = cond (sameRule rule lesserRule) (text ": settles at the lesser of the two quantities\n") (text ": settles at the seller's quantity\n")
+
+unfoldable pub openLine : (a : OpenAnswer) (rule : Rule) (area receiver : Bytes) → Bytes
+openLine a rule area receiver = answerOf (a .number) ++ cond (is (a .number) 0) (settlingText rule) (openingFault area receiver (a .character) ++ text "\n")
 
 -- an answer, then what it tells if the call is accepted
 unfoldable pub telling : (number : ℕ) (told : Bytes) → Bytes
@@ -83,8 +88,13 @@ markText differing first partner =
 unfoldable pub markLine : (a : MarkAnswer) → Bytes
 markLine a = telling (a .number) (text ": " ++ markText (a .differ) (a .first .0) (a .partner .0) ++ text "\n")
 
-unfoldable pub finalLine : (a : FinalAnswer) → Bytes
-finalLine a = telling (a .number) (text ": " ++ megawatts (a .kilowatts) ++ text " MW\n")
+-- by which rule a final value was chosen
+unfoldable pub chosenText : (rule : Rule) → Bytes
+chosenText rule = cond (sameRule rule lesserRule) (text " MW, the lesser of the two\n") (text " MW, the seller's\n")
+
+-- rule is the book's own
+unfoldable pub finalLine : (a : FinalAnswer) (rule : Rule) → Bytes
+finalLine a rule = telling (a .number) (text ": " ++ megawatts (a .kilowatts) ++ chosenText rule)
 
 unfoldable pub plainText : (holds : Bool) → Bytes
 plainText holds = cond holds (text ": yes, every kept mark and net is true\n") (text ": no, a kept mark or net is not true\n")

@@ -5,7 +5,7 @@ ghost use Prim.Native.Nat.{_≤_, _<_};
 ghost use Rattle.paper.specs.Layout.{entry};
 ghost use Rattle.paper.specs.Listing.{text};
 ghost use Rattle.desk_text.specs.Put.{Put};
-ghost use Rattle.desk_lines.specs.Lines.{status, reason, answerText, answerOf, megawatts, stateText, markText, dayText, nameText, seriesText, quantitiesText};
+ghost use Rattle.desk_lines.specs.Lines.{status, reason, answerText, answerOf, megawatts, stateText, markText, settlingText, dayText, chosenText, nameText, seriesText, quantitiesText};
 ghost use Rattle.desk_lines.specs.Lines.{verdictLine, openLine, clockLine, conversionLine, markLine, finalLine, plainLine, quantityLine, eicLine, blockLine};
 use desk_faults::put_fault;
 use desk_faults::put_opening_fault;
@@ -23,11 +23,13 @@ use field::id_text;
 use paper::ClockAnswer;
 use paper::DayState;
 use paper::FinalAnswer;
+use paper::LESSER;
 use paper::MarkAnswer;
 use paper::OpenAnswer;
 use paper::PlainRunAnswer;
 use paper::Position;
 use paper::QuantityRead;
+use paper::Rule;
 use paper::Slot;
 use paper::Verdict;
 
@@ -101,11 +103,29 @@ pub fn verdict_line(line: &mut [u8], verdict: Verdict, x: &[u8]) -> usize
     put_end(line, c)
 }
 
-// On 21 with what is wrong with the code of the area or the receiver.
-pub fn open_line(line: &mut [u8], answer: OpenAnswer, area: &[u8], receiver: &[u8]) -> usize
-    ensures { λ r. ⌜ Put 0 (openLine answer (now (area .entry)) (now (receiver .entry))) r (now (line .entry)) (now (line .exit)) ⌝ }
+fn put_settling(line: &mut [u8], at: usize, rule: Rule) -> usize
+    ensures { λ r. ⌜ Put at (settlingText rule) r (now (line .entry)) (now (line .exit)) ⌝ }
+{
+    if rule.0 == LESSER.0 {
+        return put(line, at, b": settles at the lesser of the two quantities\n");
+    }
+    put(line, at, b": settles at the seller's quantity\n")
+}
+
+// By which rule the new book settles; on 21 what is wrong with the code of the area or the receiver.
+pub fn open_line(
+    line: &mut [u8],
+    answer: OpenAnswer,
+    rule: Rule,
+    area: &[u8],
+    receiver: &[u8],
+) -> usize
+    ensures { λ r. ⌜ Put 0 (openLine answer rule (now (area .entry)) (now (receiver .entry))) r (now (line .entry)) (now (line .exit)) ⌝ }
 {
     let a = put_answer_of(line, answer.number);
+    if answer.number == 0 {
+        return put_settling(line, a, rule);
+    }
     let b = put_opening_fault(line, a, area, receiver, answer.character);
     put_end(line, b)
 }
@@ -180,8 +200,18 @@ pub fn mark_line(line: &mut [u8], answer: MarkAnswer) -> usize
     put_end(line, c)
 }
 
-pub fn final_line(line: &mut [u8], answer: FinalAnswer) -> usize
-    ensures { λ r. ⌜ Put 0 (finalLine answer) r (now (line .entry)) (now (line .exit)) ⌝ }
+fn put_chosen(line: &mut [u8], at: usize, rule: Rule) -> usize
+    ensures { λ r. ⌜ Put at (chosenText rule) r (now (line .entry)) (now (line .exit)) ⌝ }
+{
+    if rule.0 == LESSER.0 {
+        return put(line, at, b" MW, the lesser of the two\n");
+    }
+    put(line, at, b" MW, the seller's\n")
+}
+
+// The rule is the book's own.
+pub fn final_line(line: &mut [u8], answer: FinalAnswer, rule: Rule) -> usize
+    ensures { λ r. ⌜ Put 0 (finalLine answer rule) r (now (line .entry)) (now (line .exit)) ⌝ }
 {
     let a = put_answer_of(line, answer.number);
     if answer.number != 0 {
@@ -189,7 +219,7 @@ pub fn final_line(line: &mut [u8], answer: FinalAnswer) -> usize
     }
     let b = put(line, a, b": ");
     let c = put_megawatts(line, b, answer.kilowatts);
-    put(line, c, b" MW\n")
+    put_chosen(line, c, rule)
 }
 
 pub fn plain_line(line: &mut [u8], answer: PlainRunAnswer) -> usize

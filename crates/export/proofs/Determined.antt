@@ -13,6 +13,7 @@ use Rattle.export.proofs.tetherbay_reason_code.Reads as reason-code
 use Rattle.export.proofs.tetherbay_reply.Reads as reply
 use Rattle.export.proofs.book.tetherbay_sound.Reads as sound
 use Rattle.export.proofs.book.tetherbay_open.Reads as opening
+use Rattle.export.proofs.book.tetherbay_open_by.Reads as opening-by
 use Rattle.export.proofs.book.tetherbay_convert.Reads as convert
 use Rattle.export.proofs.book.tetherbay_clock.Reads as clock
 use Rattle.export.proofs.book.tetherbay_submit.Reads as submit
@@ -42,6 +43,9 @@ quantity-print-determined k a answer other s t p q = (p .0 ∙ sym (q .0), p .1 
 
 pub open-determined : OneOutcome opening.Post (λ s. now (s .0))
 open-determined k a answer other s t p q = (p .0 .0 ∙ sym (q .0 .0), p .0 .1 ∙ sym (q .0 .1))
+
+pub open-by-determined : OneOutcome opening-by.Post (λ s. now (s .0))
+open-by-determined k a answer other s t p q = (p .0 .0 ∙ sym (q .0 .0), p .0 .1 ∙ sym (q .0 .1))
 
 pub convert-determined : OneOutcome convert.Post (λ s. now (s .0))
 convert-determined k a answer other s t p q = (p .0 .0 ∙ sym (q .0 .0), p .0 .1 ∙ sym (q .0 .1))

@@ -2,7 +2,7 @@
 ghost use mathlib.Core.Path.{_≡_};
 ghost use lib.ListN.{length};
 ghost use Rattle.paper.specs.Sound.{sound};
-ghost use Rattle.paper.specs.Opening.{openAnswer, opened};
+ghost use Rattle.paper.specs.Opening.{namingNone, openAnswer, opened};
 ghost use Rattle.paper.specs.Clock.{clockAnswer, clockMoved};
 ghost use Rattle.paper.specs.Conversion.{conversionNumber, converted};
 ghost use Rattle.paper.specs.Readings.{markAnswer};
@@ -20,6 +20,7 @@ use paper::Minute;
 use paper::OpenAnswer;
 use paper::PlainRunAnswer;
 use paper::Position;
+use paper::Rule;
 use paper::Verdict;
 
 #[no_mangle]
@@ -38,10 +39,27 @@ pub extern "C" fn tetherbay_open(
     area: &[u8],
     receiver: &[u8],
 ) -> OpenAnswer
-    ensures { λ r. ⌜ (r ≡ openAnswer (now (book .entry)) (record { n = n; lead = lead; day = now (day .entry); area = now (area .entry); receiver = now (receiver .entry) })) × (now (book .exit) ≡ opened (now (book .entry)) (record { n = n; lead = lead; day = now (day .entry); area = now (area .entry); receiver = now (receiver .entry) })) ⌝ }
+    ensures { λ r. ⌜ (r ≡ openAnswer (now (book .entry)) (namingNone n lead (now (day .entry)) (now (area .entry)) (now (receiver .entry)))) × (now (book .exit) ≡ opened (now (book .entry)) (namingNone n lead (now (day .entry)) (now (area .entry)) (now (receiver .entry)))) ⌝ }
     ensures { λ r. ⌜ OpeningKeeps (now (book .entry)) (r .number) (now (book .exit)) ⌝ }
 {
     opening::open(book, n, lead, day, area, receiver)
+}
+
+// The rule is the byte that names it in the day block: 0 seller's, 1 lesser.
+#[no_mangle]
+pub extern "C" fn tetherbay_open_by(
+    book: &mut [u8],
+    n: u8,
+    lead: u16,
+    rule: u8,
+    day: &[u8],
+    area: &[u8],
+    receiver: &[u8],
+) -> OpenAnswer
+    ensures { λ r. ⌜ (r ≡ openAnswer (now (book .entry)) (record { n = n; lead = lead; rule = record { 0 = rule }; day = now (day .entry); area = now (area .entry); receiver = now (receiver .entry) })) × (now (book .exit) ≡ opened (now (book .entry)) (record { n = n; lead = lead; rule = record { 0 = rule }; day = now (day .entry); area = now (area .entry); receiver = now (receiver .entry) })) ⌝ }
+    ensures { λ r. ⌜ OpeningKeeps (now (book .entry)) (r .number) (now (book .exit)) ⌝ }
+{
+    opening::open_by(book, n, lead, Rule(rule), day, area, receiver)
 }
 
 // From the old layout, whose byte 104 is a state.

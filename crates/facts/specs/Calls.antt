@@ -1,16 +1,18 @@
 -- What an accepted clock move and an accepted opening say, as records.
-use Rattle.laws.specs.Base.{_≡_, sym, _∙_, true, false, _++_, ℕ, _-_, _/_, _%_, _≤_, arith, length, drop, replicate, length-append, length-replicate}
+use Rattle.laws.specs.Base.{_≡_, sym, ap, _∙_, true, false, _++_, ℕ, _-_, _/_, _%_, _≤_, arith, length, drop, replicate, length-append, length-replicate}
 use Rattle.laws.specs.Tests.{_or_, neg, less}
-use Rattle.laws.specs.Tests.Laws.{split, and-left, and-right, or-left, or-right, neg-no, is-yes, is-equal, less-no, upto-yes}
+use Rattle.laws.specs.Tests.Laws.{split, and-left, and-right, and-no-left, and-no-right, or-left, or-right, neg-no, is-yes, is-equal, less-no, upto-yes}
+use Rattle.laws.specs.Bytes.{part, value, little, number}
 use Rattle.laws.specs.Bytes.Laws.{little-length}
 use Rattle.paper.specs.Check.{checkRight}
-use Rattle.paper.specs.Layout.{Bytes, clockPlus10080, area, receiver, withClock}
-use Rattle.paper.specs.Ranges.{wholeBlocks, clockAllowed}
+use Rattle.paper.specs.Layout.{Bytes, clockPlus10080, ruleOf, area, receiver, withClock}
+use Rattle.paper.specs.Ranges.{wholeBlocks, clockAllowed, ruleAllowed}
 use Rattle.paper.specs.Book.{dayBlock}
 use Rattle.paper.specs.Sound.{daySound, sound}
 use Rattle.paper.specs.Opening.{Opening, dayBlockOf, openingAllowed, openNumber, opened}
 use Rattle.paper.specs.Clock.{dayState, advanced, clockAnswer, clockMoved}
-use Rattle.facts.specs.Check.{sealed-length, sealed-right}
+use Rattle.facts.specs.Check.{sealed-length, sealed-right, part-sealed}
+use Rattle.facts.specs.Layout.{rule-by-byte}
 use Rattle.facts.specs.Sound.{Sound, sound-says}
 
 -- ---- an accepted clock move
@@ -53,6 +55,7 @@ pub record Opens (book : Bytes) (o : Opening) : Type 0 where
   pub day-length : length (dayBlockOf o) ≡ 512
   pub check : checkRight (dayBlockOf o) ≡ true
   pub day : daySound (dayBlockOf o) ≡ true
+  pub rule : ruleOf (dayBlockOf o) ≡ o .rule
   pub result : opened book o ≡ dayBlockOf o ++ replicate (length book - 512) 0
 
 day-block-of-length : (o : Opening) → openingAllowed o ≡ true → length (dayBlockOf o) ≡ 512
@@ -66,6 +69,14 @@ day-block-of-length o e =
 day-block-of-right : (o : Opening) → length (dayBlockOf o) ≡ 512 → checkRight (dayBlockOf o) ≡ true
 unfolding dayBlockOf
 day-block-of-right o e = sealed-right _ (sym (sealed-length _) ∙ e)
+
+rule-byte : (o : Opening) → number 1 6 (dayBlockOf o) ≡ o .rule .0
+unfolding dayBlockOf number part value little
+rule-byte o = ap value (part-sealed 6 1 _ (omega arith)) ∙ omega arith
+
+-- the rule that an opening names is the one written
+pub day-block-of-rule : (o : Opening) → ruleOf (dayBlockOf o) ≡ o .rule
+day-block-of-rule o = rule-by-byte (dayBlockOf o) (o .rule) (rule-byte o)
 
 opening-passed : (book : Bytes) (o : Opening) → openNumber book o ≡ 0 → (wholeBlocks 2 1001 book ≡ true) × (openingAllowed o ≡ true)
 unfolding openNumber neg
@@ -85,5 +96,17 @@ opens book o e =
       day-length = l;
       check = day-block-of-right o l;
       day = and-right _ _ (q .1);
+      rule = day-block-of-rule o;
       result = rw (is-equal _ _ e);
     }
+
+-- ---- an opening that names another rule than the two
+
+rule-not-allowed : (o : Opening) → ruleAllowed (o .rule) ≡ false → openingAllowed o ≡ false
+unfolding openingAllowed daySound
+rule-not-allowed o e = and-no-right _ _ (and-no-left _ _ (and-no-left _ _ (and-no-left _ _ (and-no-right _ _ (ap ruleAllowed (day-block-of-rule o) ∙ e)))))
+
+-- "another byte in open is 21", after 20
+pub other-rule-refused : (book : Bytes) (o : Opening) → wholeBlocks 2 1001 book ≡ true → ruleAllowed (o .rule) ≡ false → openNumber book o ≡ 21
+unfolding openNumber neg
+other-rule-refused book o w e = rw (w, rule-not-allowed o e)

@@ -6,7 +6,8 @@ use Rattle.laws.specs.Lists.{every, All}
 use Rattle.laws.specs.Lists.Each.{all-append, every-all, all-every}
 use Rattle.laws.specs.Bytes.{part, written, value, little, number}
 use Rattle.laws.specs.Bytes.Laws.{part-none, part-part, part-add, all-part, written-length, part-written-before, part-written-after, part-written-same, little-length, value-little, number-part}
-use Rattle.paper.specs.Layout.{Bytes, Block, zeros, kind, nOf, lead, clockPlus10080, dayOfBook, area, receiver, dayZeros, version, idOf, seriesCount, sender, dayOfMessage, nets, net, senderZeros, businessType, contractType, sendersSlot, inArea, outArea, inParty, outParty, pair, agreement, mark, differing, first, partner, quantities, quantity, entry, aboveN, senderZerosInMessage, withClock, withSendersSlot, withMark, withNets}
+use Rattle.paper.specs.declared.Rule.{Rule}
+use Rattle.paper.specs.Layout.{Bytes, Block, zeros, kind, nOf, lead, clockPlus10080, ruleOf, dayOfBook, area, receiver, dayZeros, version, idOf, seriesCount, sender, dayOfMessage, nets, net, senderZeros, businessType, contractType, sendersSlot, inArea, outArea, inParty, outParty, pair, agreement, mark, differing, first, partner, quantities, quantity, entry, aboveN, senderZerosInMessage, withClock, withSendersSlot, withMark, withNets}
 use Rattle.facts.specs.Check.{sealed-length, part-sealed, sealed-again}
 
 -- ---- lengths
@@ -167,6 +168,15 @@ pub lead-with-clock : (minute : ℕ) (d : Block) → lead (withClock minute d) �
 unfolding lead number
 lead-with-clock minute d = ap value (part-with-clock-before minute 2 2 d (omega arith))
 
+-- a rule by its byte
+pub rule-by-byte : (d : Block) (rule : Rule) → number 1 6 d ≡ rule .0 → ruleOf d ≡ rule
+unfolding ruleOf
+rule-by-byte d rule e = rw e
+
+pub rule-with-clock : (minute : ℕ) (d : Block) → ruleOf (withClock minute d) ≡ ruleOf d
+unfolding ruleOf number
+rule-with-clock minute d = rw (part-with-clock-after minute 6 1 d (omega arith) (omega arith))
+
 pub day-of-book-with-clock : (minute : ℕ) (d : Block) → dayOfBook (withClock minute d) ≡ dayOfBook d
 unfolding dayOfBook
 day-of-book-with-clock minute d = part-with-clock-after minute 8 8 d (omega arith) (omega arith)
@@ -183,7 +193,7 @@ pub day-zeros-with-clock : (minute : ℕ) (d : Block) → dayZeros (withClock mi
 unfolding dayZeros
 day-zeros-with-clock minute d =
     rw (
-      part-with-clock-after minute 6 2 d (omega arith) (omega arith),
+      part-with-clock-after minute 7 1 d (omega arith) (omega arith),
       part-with-clock-after minute 16 8 d (omega arith)
           (omega arith),
       part-with-clock-after minute 56 452 d (omega arith) (omega arith),

@@ -8,6 +8,8 @@ pub mod QuantityText
 pub mod Marks
 pub mod Nets
 pub mod Quantities
+-- what the two rules choose (C-17)
+pub mod Finals
 -- the only door from a test to what it gives: a sound book, a message let through, a clock move, an opening
 pub mod Sound
 pub mod Verdict

@@ -81,9 +81,12 @@ n-small n e =
     split (is n 92) (λ t. omega (arith, is-yes n 92 t))
     (λ t. split (is n 96) (λ s. omega (arith, is-yes n 96 s)) (λ s. omega (arith, is-yes n 100 (or-else _ _ e (or-no _ _ t s)))))
 
-pub day-n : (d : Block) → daySound d ≡ true → nOf d ≤ 100
+n-allowed : (d : Block) → daySound d ≡ true → nAllowed (nOf d) ≡ true
 unfolding daySound dayFields
-day-n d e = n-small _ (and-right _ _ (and-left _ _ (and-left _ _ (and-left _ _ (and-left _ _ (and-left _ _ (and-left _ _ e)))))))
+n-allowed d e = and-right _ _ (and-left _ _ (and-left _ _ (and-left _ _ (and-left _ _ (and-left _ _ (and-left _ _ (and-left _ _ e)))))))
+
+pub day-n : (d : Block) → daySound d ≡ true → nOf d ≤ 100
+day-n d e = n-small _ (n-allowed d e)
 
 n-large : (n : ℕ) → nAllowed n ≡ true → 92 ≤ n
 unfolding nAllowed
@@ -92,8 +95,7 @@ n-large n e =
     (λ t. split (is n 96) (λ s. omega (arith, is-yes n 96 s)) (λ s. omega (arith, is-yes n 100 (or-else _ _ e (or-no _ _ t s)))))
 
 pub day-n-least : (d : Block) → daySound d ≡ true → 92 ≤ nOf d
-unfolding daySound dayFields
-day-n-least d e = n-large _ (and-right _ _ (and-left _ _ (and-left _ _ (and-left _ _ (and-left _ _ (and-left _ _ (and-left _ _ e)))))))
+day-n-least d e = n-large _ (n-allowed d e)
 
 -- ---- a used slot: a sound sender or a sound series
 

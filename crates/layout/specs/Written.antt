@@ -29,7 +29,7 @@ withBusinessType business x = set x 4 business
 
 -- the fields of a day block that an opening gives
 unfoldable pub withDayFields : Opening → Block → Block
-withDayFields o d = written 40 (o .receiver) (written 24 (o .area) (written 8 (o .day) (withFront 3 (o .n) (o .lead) d)))
+withDayFields o d = written 40 (o .receiver) (written 24 (o .area) (written 8 (o .day) (set (withFront 3 (o .n) (o .lead) d) 6 (o .rule .0))))
 
 -- m bytes: v, then zero bytes
 unfoldable pub padded : ℕ → Bytes → Bytes

@@ -3,7 +3,7 @@
 ghost use mathlib.Core.Path.{_≡_};
 ghost use Prim.Native.Nat.{_<_, _≤_};
 ghost use lib.ListN.{length};
-ghost use Rattle.paper.specs.Layout.{kind, nOf, lead, clockPlus10080, dayOfBook, area, receiver, version, idOf, seriesCount, sender, dayOfMessage, nets, businessType, contractType, sendersSlot, inArea, outArea, inParty, outParty, pair, agreement, mark, differing, first, partner, quantities, quantity, aboveN, dayZeros, senderZeros, senderZerosInMessage, seriesZerosInMessage};
+ghost use Rattle.paper.specs.Layout.{kind, nOf, lead, clockPlus10080, ruleOf, dayOfBook, area, receiver, version, idOf, seriesCount, sender, dayOfMessage, nets, businessType, contractType, sendersSlot, inArea, outArea, inParty, outParty, pair, agreement, mark, differing, first, partner, quantities, quantity, aboveN, dayZeros, senderZeros, senderZerosInMessage, seriesZerosInMessage};
 use block::numbers::byte_or_zero;
 use block::numbers::number_2;
 use block::numbers::number_4;
@@ -12,6 +12,7 @@ use field::all_zero;
 use field::part_of;
 use paper::Minute;
 use paper::Position;
+use paper::Rule;
 use paper::Slot;
 
 pub mod write;
@@ -39,6 +40,12 @@ pub fn clock(b: &[u8]) -> Minute
     ensures { λ r. ⌜ r .0 ≡ clockPlus10080 (now (b .entry)) ⌝ }
 {
     Minute(number_2(b, 4))
+}
+
+pub fn rule_of(d: &[u8]) -> Rule
+    ensures { λ r. ⌜ r ≡ ruleOf (now (d .entry)) ⌝ }
+{
+    Rule(byte_or_zero(d, 6))
 }
 
 pub fn day_of_book(b: &[u8]) -> &[u8]
@@ -210,7 +217,7 @@ pub fn above_n(n: usize, b: &[u8]) -> &[u8]
 pub fn day_zeros(d: &[u8]) -> bool
     ensures { λ r. ⌜ r ≡ dayZeros (now (d .entry)) ⌝ }
 {
-    all_zero(part_of(d, 6, 2)) & all_zero(part_of(d, 16, 8)) & all_zero(part_of(d, 56, 452))
+    all_zero(part_of(d, 7, 1)) & all_zero(part_of(d, 16, 8)) & all_zero(part_of(d, 56, 452))
 }
 
 pub fn sender_zeros(s: &[u8]) -> bool

@@ -12,6 +12,7 @@ use block::numbers::write_2;
 use block::numbers::write_4;
 use block::numbers::write_bytes;
 use paper::Minute;
+use paper::Rule;
 use paper::Slot;
 
 // ---- the day block
@@ -26,10 +27,19 @@ pub fn write_front(b: &mut [u8], kind: u8, n: u8, number: u16)
 }
 
 // All that an opening gives; the clock and the bytes shown as 0 stay.
-pub fn write_day_fields(d: &mut [u8], n: u8, lead: u16, day: &[u8], area: &[u8], receiver: &[u8])
-    ensures { λ _. ⌜ now (d .exit) ≡ withDayFields (record { n = n; lead = lead; day = now (day .entry); area = now (area .entry); receiver = now (receiver .entry) }) (now (d .entry)) ⌝ }
+pub fn write_day_fields(
+    d: &mut [u8],
+    n: u8,
+    lead: u16,
+    rule: Rule,
+    day: &[u8],
+    area: &[u8],
+    receiver: &[u8],
+)
+    ensures { λ _. ⌜ now (d .exit) ≡ withDayFields (record { n = n; lead = lead; rule = rule; day = now (day .entry); area = now (area .entry); receiver = now (receiver .entry) }) (now (d .entry)) ⌝ }
 {
     write_front(d, 3, n, lead);
+    put_byte(d, 6, rule.0);
     write_bytes(d, 8, day);
     write_bytes(d, 24, area);
     write_bytes(d, 40, receiver);

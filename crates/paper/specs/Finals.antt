@@ -5,15 +5,21 @@ use mathlib.Core.List.{List, [], _++_}
 use Prim.Native.Nat.{ℕ, _-_}
 use Rattle.laws.specs.Tests.{_or_, neg, is, less}
 use Rattle.laws.specs.Lists.{find}
+use Rattle.paper.specs.declared.Rule.{Rule}
 use Rattle.paper.specs.declared.FinalAnswer.{FinalAnswer}
-use Rattle.paper.specs.Layout.{Bytes, Block, nOf, quantities, entry}
+use Rattle.paper.specs.Layout.{Bytes, Block, nOf, ruleOf, lesserRule, sameRule, quantities, entry}
 use Rattle.paper.specs.Book.{dayBlock, used, slotOf, isSeriesOfPair}
 use Rattle.paper.specs.Sound.{sound}
 use Rattle.paper.specs.Rules.{closed}
 
--- "the seller's quantity": 000 leaves the choice of side to market rules; this is ours, and the one place that chooses
-unfoldable pub finalOf : (sellers : ℕ) (buyers : ℕ) → ℕ
-finalOf sellers buyers = sellers
+-- "the lesser of the two quantities"
+unfoldable pub lesserOf : (sellers : ℕ) (buyers : ℕ) → ℕ
+lesserOf sellers buyers = cond (less buyers sellers) buyers sellers
+
+-- "the seller's quantity", or the lesser, as the book's rule says: 000 leaves the choice of side to market rules; these two are ours, and this is the one place that
+-- chooses
+unfoldable pub finalOf : (rule : Rule) (sellers : ℕ) (buyers : ℕ) → ℕ
+finalOf rule sellers buyers = cond (sameRule rule lesserRule) (lesserOf sellers buyers) sellers
 
 -- the quantities that party e has under a pair
 unfoldable pub held : (us : List Block) (e : Bytes) (parties : Bytes) → Option Bytes
@@ -23,7 +29,7 @@ unfoldable pub isHeld : Option Bytes → Bool
 isHeld none = false
 isHeld (some quantities) = true
 
--- the quantity at position k + 1, "a missing seller series counting 0"
+-- the quantity at position k + 1, "a missing series counting 0", the seller's or the buyer's
 unfoldable pub heldAt : (found : Option Bytes) (k : ℕ) → ℕ
 heldAt found k = entry (Option·getD found []) k
 
@@ -36,7 +42,7 @@ finalIn day us seller buyer position =
     cond (is position 0 or less (nOf day) position) (finalRefused 24)
     (cond (neg (closed day position)) (finalRefused 25)
     (cond (neg (isHeld (held us seller (buyer ++ seller)) or isHeld (held us buyer (buyer ++ seller)))) (finalRefused 26)
-    (record { number = 0; kilowatts = finalOf (heldAt (held us seller (buyer ++ seller)) (position - 1)) (heldAt (held us buyer (buyer ++ seller)) (position - 1)) })))
+    (record { number = 0; kilowatts = finalOf (ruleOf day) (heldAt (held us seller (buyer ++ seller)) (position - 1)) (heldAt (held us buyer (buyer ++ seller)) (position - 1)) })))
 
 -- 1, then these
 unfoldable pub final : (book : Bytes) (seller : Bytes) (buyer : Bytes) (position : ℕ) → FinalAnswer

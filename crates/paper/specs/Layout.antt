@@ -7,6 +7,7 @@ use Rattle.laws.specs.Tests.{_and_, is}
 use Rattle.laws.specs.Lists.{every}
 use Rattle.laws.specs.Bytes.{part, written, little, number}
 use Rattle.laws.specs.Cut.{cut}
+use Rattle.paper.specs.declared.Rule.{Rule}
 use Rattle.paper.specs.Check.{sealed}
 
 abbrev pub Bytes : Type 0
@@ -40,6 +41,19 @@ lead day = number 2 2 day
 unfoldable pub clockPlus10080 : Block → ℕ
 clockPlus10080 day = number 2 4 day
 
+-- "Byte 6 of the day block names the rule: 0 seller's, 1 lesser"
+unfoldable pub ruleOf : Block → Rule
+ruleOf day = record { 0 = number 1 6 day }
+
+abbrev pub sellersRule : Rule
+sellersRule = record { 0 = 0 }
+
+abbrev pub lesserRule : Rule
+lesserRule = record { 0 = 1 }
+
+unfoldable pub sameRule : (a : Rule) (b : Rule) → Bool
+sameRule a b = is (a .0) (b .0)
+
 unfoldable pub dayOfBook : Block → Bytes
 dayOfBook day = part 8 8 day
 
@@ -52,7 +66,7 @@ receiver b = part 40 16 b
 
 -- the bytes shown as 0
 unfoldable pub dayZeros : Block → Bool
-dayZeros day = zeros (part 6 2 day) and zeros (part 16 8 day) and zeros (part 56 452 day)
+dayZeros day = zeros (part 7 1 day) and zeros (part 16 8 day) and zeros (part 56 452 day)
 
 -- ---- sender and series blocks
 

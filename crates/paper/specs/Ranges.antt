@@ -3,7 +3,8 @@ use mathlib.Core.Bool.{Bool}
 use Prim.Native.Nat.{ℕ, _/_, _%_}
 use lib.ListN.{length}
 use Rattle.laws.specs.Tests.{_and_, _or_, is, upto, below}
-use Rattle.paper.specs.Layout.{Bytes, Block, zeros, net, quantity, aboveN}
+use Rattle.paper.specs.declared.Rule.{Rule}
+use Rattle.paper.specs.Layout.{Bytes, Block, zeros, sellersRule, lesserRule, sameRule, net, quantity, aboveN}
 
 -- "2 to 1,001 blocks", "2 to 201 whole blocks": whole blocks, from least to most of them
 unfoldable pub wholeBlocks : (least : ℕ) (most : ℕ) (bytes : Bytes) → Bool
@@ -20,6 +21,10 @@ leadAllowed minutes = upto minutes 1440
 -- "Clock −10,080 to 1,500": the minute is counted from −10,080
 unfoldable pub clockAllowed : ℕ → Bool
 clockAllowed minute = upto minute 11580
+
+-- "soundness admits 0 and 1 there"
+unfoldable pub ruleAllowed : Rule → Bool
+ruleAllowed rule = sameRule rule sellersRule or sameRule rule lesserRule
 
 -- "Versions 1 to 999"
 unfoldable pub versionAllowed : ℕ → Bool

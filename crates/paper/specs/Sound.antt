@@ -6,8 +6,8 @@ use lib.ListN.{length, take, drop}
 use Rattle.laws.specs.Tests.{_and_, _or_, neg, is, upto}
 use Rattle.laws.specs.Lists.{same, every, apart, count}
 use Rattle.paper.specs.Check.{checkRight}
-use Rattle.paper.specs.Layout.{Bytes, Block, blocks, zeros, kind, nOf, lead, clockPlus10080, dayOfBook, area, receiver, dayZeros, version, idOf, seriesCount, sender, dayOfMessage, senderZeros, businessType, contractType, sendersSlot, inArea, outArea, inParty, outParty, pair, agreement, differing, first, partner}
-use Rattle.paper.specs.Ranges.{wholeBlocks, nAllowed, leadAllowed, clockAllowed, versionAllowed, countAllowed, quantitiesAllowed, netsAllowed}
+use Rattle.paper.specs.Layout.{Bytes, Block, blocks, zeros, kind, nOf, lead, clockPlus10080, ruleOf, dayOfBook, area, receiver, dayZeros, version, idOf, seriesCount, sender, dayOfMessage, senderZeros, businessType, contractType, sendersSlot, inArea, outArea, inParty, outParty, pair, agreement, differing, first, partner}
+use Rattle.paper.specs.Ranges.{wholeBlocks, nAllowed, leadAllowed, clockAllowed, ruleAllowed, versionAllowed, countAllowed, quantitiesAllowed, netsAllowed}
 use Rattle.paper.specs.Ids.{idWellFormed, dayWellFormed}
 use Rattle.paper.specs.Eic.{eicValid}
 use Rattle.paper.specs.Book.{dayBlock, slots, isFree, used, isSender, isSeries, numbered, slotOf, isSeriesOf}
@@ -18,7 +18,7 @@ unfoldable pub dayFields : (day : Block) → Bool
 dayFields day = is (kind day) 3 and nAllowed (nOf day) and leadAllowed (lead day) and clockAllowed (clockPlus10080 day) and dayWellFormed (dayOfBook day)
 
 unfoldable pub daySound : (day : Block) → Bool
-daySound day = dayFields day and eicValid (area day) and eicValid (receiver day) and dayZeros day
+daySound day = dayFields day and ruleAllowed (ruleOf day) and eicValid (area day) and eicValid (receiver day) and dayZeros day
 
 -- ---- "used slots first, free ones after"
 

@@ -13,6 +13,17 @@ pub struct Slot(pub usize);
 #[repr(C)]
 pub struct Minute(pub u16);
 
+// The rule by which a final value is chosen, by the byte that names it in the day block: any byte may be put to an opening, and no sound book has another
+// than these two.
+#[repr(C)]
+pub struct Rule(pub u8);
+
+// The seller's quantity.
+pub const SELLERS: Rule = Rule(0);
+
+// The lesser of the seller's and the buyer's, a missing series counting 0.
+pub const LESSER: Rule = Rule(1);
+
 // The answer to a submission: the number of the first broken rule, or 0, with its reason code (0 where it has none; A53 is 53), the series and the
 // position at which it is broken, and on 4 and 8 the number that the EIC check gives the code at fault: which character is wrong.
 #[repr(C)]

@@ -3,7 +3,7 @@
 use Rattle.laws.specs.Base.{_≡_, true, false, none, some, Option·getD, Option·map, List, [], _∷_, ℕ, _+_, _*_, _≤_, _<_, length, drop}
 use Rattle.laws.specs.Lists.{find, nth, All}
 use Rattle.laws.specs.Bytes.{little}
-use Rattle.paper.specs.Layout.{Bytes, Block, sender, nets, net, sendersSlot, pair, mark, partner, quantities, quantity}
+use Rattle.paper.specs.Layout.{Bytes, Block, ruleOf, sellersRule, lesserRule, sender, nets, net, sendersSlot, pair, mark, partner, quantities, quantity}
 use Rattle.paper.specs.Book.{dayBlock, used, freeSlots, isSender, isSeries, isSenderBlockOf, slotOf, isSeriesOf, isSeriesOfPair, ownSender, ownSeries}
 use Rattle.paper.specs.Sound.{sound}
 use Rattle.paper.specs.Message.{headOf}
@@ -12,7 +12,7 @@ use Rattle.paper.specs.Marks.{firstDifference, differences, markOf}
 use Rattle.paper.specs.Nets.{bought, sold, netOf}
 use Rattle.paper.specs.Acceptance.{accepted, submitted}
 use Rattle.paper.specs.PlainRun.{plainRun}
-use Rattle.paper.specs.Finals.{held, final}
+use Rattle.paper.specs.Finals.{lesserOf, finalOf, held, final}
 use Rattle.paper.specs.Readings.{markAnswer, acceptedBlock}
 use Rattle.paper.specs.Opening.{Opening, openNumber, opened}
 use Rattle.paper.specs.Clock.{clockAnswer, clockMoved}
@@ -24,8 +24,9 @@ use Rattle.facts.specs.Verdict.{accepts}
 use Rattle.facts.specs.Conversion.{converts, conversion-refused}
 use Rattle.facts.specs.Marks.{Agree, Differ, no-difference-agree, difference-differ, agree-no-differences, no-differences-agree, no-differences-no-difference, no-difference-no-differences, differences-most, mark-agree, mark-differ}
 use Rattle.facts.specs.Nets.{SignedSum, net-signed}
+use Rattle.facts.specs.Finals.{lesser-below-sellers, lesser-below-buyers, lesser-greatest, final-by-sellers, final-by-lesser}
 use Rattle.promises.specs.Laws.Conversion.{series-stays, sender-stays, true-book-stays}
-use Rattle.promises.specs.Laws.Finals.{final-stays}
+use Rattle.promises.specs.Laws.Finals.{rule-stays, final-stays}
 use Rattle.promises.specs.Laws.Invariant.{Invariant, held-plain, content-plain, invariant-run, invariant-begun}
 use Rattle.promises.specs.Laws.Isolation.{verdict-isolated, determined}
 use Rattle.promises.specs.Laws.KeptMessages.{head-of-latest-kept, series-of-latest-kept}
@@ -33,7 +34,7 @@ use Rattle.promises.specs.Laws.Others.{others-kept, rest-kept}
 use Rattle.promises.specs.Laws.PlainMarks.{sender-named, mark-plain, partner-plain, says-yes}
 use Rattle.promises.specs.Laws.ReadBack.{day-block-accepted}
 use Rattle.promises.specs.Laws.Refusals.{opening-refused, clock-refused, submission-refused}
-use Rattle.promises.specs.Laws.Soundness.{opened-sound, moved-sound, submitted-sound}
+use Rattle.promises.specs.Laws.Soundness.{opened-sound, opened-rule, moved-sound, submitted-sound}
 use Rattle.promises.specs.Laws.ConvertedSlots.{used-converted-length, day-block-converted, converted-book-length, rest-converted}
 use Rattle.promises.specs.Laws.SoundConverted.{converted-sound}
 use Rattle.promises.specs.Kept.{sound-book, accepted-block-as-sent, no-accepted-block, mark-as-ruled, partner-as-ruled, net-as-summed, final-as-sent, final-after-conversion}
@@ -43,6 +44,9 @@ use Rattle.promises.specs.Words.{content, SameContents, headContent, But
 
 pub opening-gives-a-sound-book : (book : Bytes) (o : Opening) → openNumber book o ≡ 0 → sound (opened book o) ≡ true
 opening-gives-a-sound-book = opened-sound
+
+pub opening-writes-its-rule : (book : Bytes) (o : Opening) → openNumber book o ≡ 0 → ruleOf (dayBlock (opened book o)) ≡ o .rule
+opening-writes-its-rule = opened-rule
 
 pub clock-move-keeps-soundness : (book : Bytes) (minute : ℕ) → (clockAnswer book minute) .number ≡ 0 → sound (clockMoved book minute) ≡ true
 clock-move-keeps-soundness = moved-sound
@@ -148,6 +152,11 @@ module _ (buffer : Bytes) (start : Call) (starts : Starts buffer start) (calls :
       → final book seller buyer p ≡ finalGiven v → final ((run (reached buffer start calls) further) .book) seller buyer p ≡ finalGiven v
   finals-stay further = final-stays (reached buffer start calls) further holds
 
+  -- and by one rule: no call but an accepted opening changes the byte that names it
+  pub the-rule-stays : (further : List Call) → Unopened (reached buffer start calls) further
+      → ruleOf (dayBlock ((run (reached buffer start calls) further) .book)) ≡ ruleOf (dayBlock book)
+  the-rule-stays further = rule-stays (reached buffer start calls) further
+
   -- ---- 4. The plain run says yes
 
   pub plain-run-says-yes : plainRun book ≡ record { number = 0; holds = true }
@@ -217,7 +226,7 @@ converting-a-true-book-changes-nothing = true-book-stays
 pub promises-determine : {I A : Type 0} (answer : I → A) (bytes : I → Bytes) → Determines {I = I} {A = A} (λ i r x. (r ≡ answer i) × (x ≡ bytes i))
 promises-determine = determined
 
--- ---- 8. What marks, nets and a conversion's messages are
+-- ---- 8. What marks, nets, finals and a conversion's messages are
 -- Facts of the definitions that demand 3 speaks in: `Agree`, `Differ` and `SignedSum` are of crates/facts, `Marks` and `Nets`.
 
 -- the first difference is 0 exactly where all n quantities agree, else the lowest position of the n at which they differ
@@ -264,5 +273,21 @@ kept-series-stand-as-the-latest-messages book s = series-of-latest-kept book (so
 pub nets-are-signed-sums : (e : Bytes) (series : List Block) (k : ℕ) → length series ≤ 200 → All (λ x. quantity x k ≤ 9999999) series
     → SignedSum (netOf e series k) (bought e series k) (sold e series k)
 nets-are-signed-sums = net-signed
+
+-- a final is the seller's quantity or the lesser of the two, by the book's rule; the lesser is the greatest number that is above neither
+pub final-by-the-sellers-rule : (sellers buyers : ℕ) → finalOf sellersRule sellers buyers ≡ sellers
+final-by-the-sellers-rule = final-by-sellers
+
+pub final-by-the-lesser-rule : (sellers buyers : ℕ) → finalOf lesserRule sellers buyers ≡ lesserOf sellers buyers
+final-by-the-lesser-rule = final-by-lesser
+
+pub the-lesser-is-at-most-the-sellers : (sellers buyers : ℕ) → lesserOf sellers buyers ≤ sellers
+the-lesser-is-at-most-the-sellers = lesser-below-sellers
+
+pub the-lesser-is-at-most-the-buyers : (sellers buyers : ℕ) → lesserOf sellers buyers ≤ buyers
+the-lesser-is-at-most-the-buyers = lesser-below-buyers
+
+pub the-lesser-is-the-greatest-such : (sellers buyers k : ℕ) → k ≤ sellers → k ≤ buyers → k ≤ lesserOf sellers buyers
+the-lesser-is-the-greatest-such = lesser-greatest
 
 -- ---- 9. The useless versions contradict these promises: see the crate `useless`

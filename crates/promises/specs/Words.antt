@@ -6,7 +6,7 @@ use Rattle.laws.specs.Lists.{same, find, has}
 use Rattle.laws.specs.Bytes.{part, number}
 use Rattle.paper.specs.declared.MarkAnswer.{MarkAnswer}
 use Rattle.paper.specs.declared.FinalAnswer.{FinalAnswer}
-use Rattle.paper.specs.Layout.{Bytes, Block, nOf, lead, clockPlus10080, pair}
+use Rattle.paper.specs.Layout.{Bytes, Block, nOf, lead, clockPlus10080, ruleOf, pair}
 use Rattle.paper.specs.Book.{dayBlock, used, idIs, pairIs, slotOf, isSeriesOf}
 use Rattle.paper.specs.Message.{headOf}
 use Rattle.paper.specs.Rules.{numberOf, closed, verdict}
@@ -75,11 +75,12 @@ messagesAfter book message messages = cond (is (numberOf (verdict book message))
 abbrev pub finalGiven : ℕ → FinalAnswer
 finalGiven kilowatts = record { number = 0; kilowatts = kilowatts }
 
--- What keeps finals from a book to a later one: n and lead stay, the clock does not fall, a pair once held stays held, and its quantities at the positions that were
+-- What keeps finals from a book to a later one: n, lead and rule stay, the clock does not fall, a pair once held stays held, and its quantities at the positions that were
 -- closed, here k + 1, stay
 pub record Later (before after : Bytes) : Type 0 where
   pub n : nOf (dayBlock after) ≡ nOf (dayBlock before)
   pub leads : lead (dayBlock after) ≡ lead (dayBlock before)
+  pub rules : ruleOf (dayBlock after) ≡ ruleOf (dayBlock before)
   pub clocks : clockPlus10080 (dayBlock before) ≤ clockPlus10080 (dayBlock after)
   pub kept : (e p : Bytes) → isHeld (held (used before) e p) ≡ true → isHeld (held (used after) e p) ≡ true
   pub values : (e p : Bytes) (k : ℕ) → k < 100 → closed (dayBlock before) (k + 1) ≡ true → heldAt (held (used after) e p) k ≡ heldAt (held (used before) e p) k
@@ -114,7 +115,7 @@ plainFinal day messages seller buyer position =
     (cond (neg (closed day position)) (finalRefused 25)
     (cond (neg (isHeld (plainHeld messages seller (buyer ++ seller)) or isHeld (plainHeld messages buyer (buyer ++ seller)))) (finalRefused 26)
     (finalGiven
-    (finalOf (heldAt (plainHeld messages seller (buyer ++ seller)) (position - 1)) (heldAt (plainHeld messages buyer (buyer ++ seller)) (position - 1))))))
+    (finalOf (ruleOf day) (heldAt (plainHeld messages seller (buyer ++ seller)) (position - 1)) (heldAt (plainHeld messages buyer (buyer ++ seller)) (position - 1))))))
 
 -- x is the counterpart of a series of the sender e, among the used slots us
 unfoldable pub isCounterpartOf : List Block → Bytes → Block → Bool

@@ -6,15 +6,18 @@ ghost use Rattle.laws.specs.Lists.{same, place};
 ghost use Rattle.laws.specs.Cut.{cut};
 ghost use Rattle.paper.specs.Layout.{quantities, entry};
 ghost use Rattle.paper.specs.Book.{numbered, slotOf, isSeriesOfPair};
-ghost use Rattle.paper.specs.Finals.{finalOf, finalRefused, finalIn};
+ghost use Rattle.paper.specs.Finals.{lesserOf, finalOf, finalRefused, finalIn};
 ghost use Rattle.readings.specs.Held.{finalHeld};
 use block::numbers::number_4;
 use field::same;
 use layout::n_of;
 use layout::pair;
 use layout::quantities;
+use layout::rule_of;
 use paper::FinalAnswer;
+use paper::LESSER;
 use paper::Position;
+use paper::Rule;
 use paper::Slot;
 use slots::block_at;
 use slots::is_series_of;
@@ -66,10 +69,21 @@ fn held_at(us: &[u8], slot: Slot, k: usize) -> u32
     number_4(quantities(numbered(us, slot)), 4 * k)
 }
 
-// The side that a final value is taken from: the one place that chooses.
-fn final_of(sellers: u32, buyers: u32) -> u32
-    ensures { λ r. ⌜ r ≡ finalOf sellers buyers ⌝ }
+// "The lesser of the two quantities."
+fn lesser_of(sellers: u32, buyers: u32) -> u32
+    ensures { λ r. ⌜ r ≡ lesserOf sellers buyers ⌝ }
 {
+    if buyers < sellers { buyers } else { sellers }
+}
+
+// The one place that chooses. A series that is missing comes as 0: so a lone side settles at 0 by the lesser rule, and a counterpart that comes late,
+// which rule 14 holds to 0 at closed positions, changes nothing.
+fn final_of(rule: Rule, sellers: u32, buyers: u32) -> u32
+    ensures { λ r. ⌜ r ≡ finalOf rule sellers buyers ⌝ }
+{
+    if rule.0 == LESSER.0 {
+        return lesser_of(sellers, buyers);
+    }
     sellers
 }
 
@@ -83,9 +97,9 @@ pub fn final_refused(number: u32) -> FinalAnswer
 }
 
 // At a closed position k + 1.
-fn final_held(us: &[u8], seller: &[u8], buyer: &[u8], k: usize) -> FinalAnswer
+fn final_held(rule: Rule, us: &[u8], seller: &[u8], buyer: &[u8], k: usize) -> FinalAnswer
     requires { ⌜ k < 255 ⌝ }
-    ensures { λ r. ⌜ r ≡ finalHeld (cut 512 (now (us .entry))) (now (seller .entry)) (now (buyer .entry)) k ⌝ }
+    ensures { λ r. ⌜ r ≡ finalHeld rule (cut 512 (now (us .entry))) (now (seller .entry)) (now (buyer .entry)) k ⌝ }
 {
     let sellers = held(us, seller, seller, buyer);
     let buyers = held(us, buyer, seller, buyer);
@@ -94,7 +108,7 @@ fn final_held(us: &[u8], seller: &[u8], buyer: &[u8], k: usize) -> FinalAnswer
     }
     FinalAnswer {
         number: 0,
-        kilowatts: final_of(held_at(us, sellers, k), held_at(us, buyers, k)),
+        kilowatts: final_of(rule, held_at(us, sellers, k), held_at(us, buyers, k)),
     }
 }
 
@@ -111,5 +125,5 @@ pub fn final_in(d: &[u8], us: &[u8], seller: &[u8], buyer: &[u8], position: Posi
     if !closed(d, position) {
         return final_refused(25);
     }
-    final_held(us, seller, buyer, p - 1)
+    final_held(rule_of(d), us, seller, buyer, p - 1)
 }

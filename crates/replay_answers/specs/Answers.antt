@@ -8,6 +8,7 @@ use lib.ListN.{length, drop}
 use Rattle.laws.specs.Tests.{_or_, is, less}
 use Rattle.laws.specs.Bytes.{number}
 use Rattle.paper.specs.declared.OpenAnswer.{OpenAnswer}
+use Rattle.paper.specs.declared.Rule.{Rule}
 use Rattle.paper.specs.declared.ClockAnswer.{ClockAnswer}
 use Rattle.paper.specs.declared.Verdict.{Verdict}
 use Rattle.paper.specs.declared.MarkAnswer.{MarkAnswer}
@@ -15,7 +16,7 @@ use Rattle.paper.specs.declared.FinalAnswer.{FinalAnswer}
 use Rattle.paper.specs.declared.PlainRunAnswer.{PlainRunAnswer}
 use Rattle.paper.specs.declared.QuantityRead.{QuantityRead}
 use Rattle.paper.specs.declared.QuantityPrinted.{QuantityPrinted}
-use Rattle.paper.specs.Layout.{Bytes, Block}
+use Rattle.paper.specs.Layout.{Bytes, Block, lesserRule}
 use Rattle.paper.specs.Check.{checkFrom, checkOf, checkRight, sealed}
 use Rattle.paper.specs.Eic.{eicNumber}
 use Rattle.paper.specs.Ids.{idWellFormed}
@@ -126,39 +127,46 @@ readingNumbers tag book body =
 
 -- ---- calls that may change the book
 
--- one byte of n, two of lead, then the names of day, area and receiver
-unfoldable pub openingOf : (body : Bytes) → Opening
-openingOf body =
+-- one byte of n, two of lead and, of `open_by`, one of the rule; then, from a place on, the names of day, area and receiver
+unfoldable pub openingOf : (rule : Rule) (names : ℕ) (body : Bytes) → Opening
+openingOf rule names body =
     record {
       n = number 1 0 body;
       lead = number 2 1 body;
-      day = nameAt body 3;
-      area = nameAt body (nameEnd body 3);
-      receiver = nameAt body (nameEnd body (nameEnd body 3));
+      rule = rule;
+      day = nameAt body names;
+      area = nameAt body (nameEnd body names);
+      receiver = nameAt body (nameEnd body (nameEnd body names));
     }
 
-unfoldable pub threeNames : (body : Bytes) → Bool
-threeNames body = is (nameEnd body (nameEnd body (nameEnd body 3))) (length body)
+unfoldable pub threeNames : (names : ℕ) (body : Bytes) → Bool
+threeNames names body = is (nameEnd body (nameEnd body (nameEnd body names))) (length body)
 
-unfoldable pub openNumbers : (book body : Bytes) → List ℕ
-openNumbers book body = cond (threeNames body) (openTold (openAnswer book (openingOf body))) []
+unfoldable pub openNumbers : (rule : Rule) (names : ℕ) (book body : Bytes) → List ℕ
+openNumbers rule names book body = cond (threeNames names body) (openTold (openAnswer book (openingOf rule names body))) []
 
-unfoldable pub openAfter : (book body : Bytes) → Bytes
-openAfter book body = cond (threeNames body) (opened book (openingOf body)) book
+unfoldable pub openAfter : (rule : Rule) (names : ℕ) (book body : Bytes) → Bytes
+openAfter rule names book body = cond (threeNames names body) (opened book (openingOf rule names body)) book
+
+-- the rule that a body of `open_by` names
+unfoldable pub ruleNamed : (body : Bytes) → Rule
+ruleNamed body = record { 0 = number 1 3 body }
 
 unfoldable pub dayNumbers : (tag : ℕ) (book body : Bytes) → List ℕ
 dayNumbers tag book body =
-    cond (is tag 5) (openNumbers book body)
+    cond (is tag 5) (openNumbers lesserRule 3 book body)
     (cond (is tag 6) (clockTold (clockAnswer book (number 2 0 body)))
     (cond (is tag 7) (verdictTold (verdict book body))
-    (conversionNumber book ∷ [])))
+    (cond (is tag 24) (openNumbers (ruleNamed body) 4 book body)
+    (conversionNumber book ∷ []))))
 
 unfoldable pub dayAfter : (tag : ℕ) (book body : Bytes) → Bytes
 dayAfter tag book body =
-    cond (is tag 5) (openAfter book body)
+    cond (is tag 5) (openAfter lesserRule 3 book body)
     (cond (is tag 6) (clockMoved book (number 2 0 body))
     (cond (is tag 7) (submitted book body)
-    (converted book)))
+    (cond (is tag 24) (openAfter (ruleNamed body) 4 book body)
+    (converted book))))
 
 -- ---- calls whose lines show bytes
 
@@ -187,7 +195,7 @@ sealLine block = answerLine (wordOf 21) [] (sealed block)
 
 -- ---- every record whose line is made of a book and a body: tags 3 to 25; tags 1 and 2, `length` and `bytes`, are not asked of it (stream, specs/Buffer)
 
--- tags 5 to 7 and those above 23: open, clock, submit and convert may change the book
+-- tags 5 to 7 and those above 23: open, clock, submit, open_by and convert may change the book
 unfoldable pub mayChange : (tag : ℕ) → Bool
 mayChange tag = less tag 8 or less 23 tag
 

@@ -1,4 +1,4 @@
-// The calls that may change the book: open, clock, submit, convert; and judge, which tells what submit would.
+// The calls that may change the book: open, clock, submit, open_by, convert; and judge, which tells what submit would.
 ghost use mathlib.Core.Path.{_≡_};
 ghost use mathlib.Core.List.{[], _∷_};
 ghost use Rattle.paper.specs.Rules.{verdict};
@@ -9,7 +9,9 @@ ghost use Rattle.stream.specs.Told.{numbersOf};
 ghost use Rattle.replay_answers.specs.Answers.{clockTold, verdictTold, openNumbers, openAfter, dayNumbers, dayAfter};
 use block::numbers::byte_or_zero;
 use block::numbers::number_2;
+use paper::LESSER;
 use paper::Minute;
+use paper::Rule;
 use paper::Verdict;
 use stream::fields::name;
 use stream::fields::name_end;
@@ -20,22 +22,23 @@ use stream::told::nothing;
 use stream::told::one;
 use stream::told::two;
 
-// One byte of n, two of lead, then the names of day, area and receiver.
-fn open(book: &mut [u8], body: &[u8]) -> Told
-    ensures { λ r. ⌜ (numbersOf r ≡ openNumbers (now (book .entry)) (now (body .entry))) × (now (book .exit) ≡ openAfter (now (book .entry)) (now (body .entry))) ⌝ }
+// One byte of n, two of lead and, of a record that names its rule, one of that; then, from a place on, the names of day, area and receiver.
+fn open(book: &mut [u8], body: &[u8], rule: Rule, names: usize) -> Told
+    ensures { λ r. ⌜ (numbersOf r ≡ openNumbers rule names (now (book .entry)) (now (body .entry))) × (now (book .exit) ≡ openAfter rule names (now (book .entry)) (now (body .entry))) ⌝ }
 {
-    let area = name_end(body, 3);
+    let area = name_end(body, names);
     let receiver = name_end(body, area);
     if name_end(body, receiver) != body.len() {
         return nothing();
     }
     let n = byte_or_zero(body, 0);
     let lead = number_2(body, 1);
-    let a = opening::open(
+    let a = opening::open_by(
         book,
         n,
         lead,
-        name(body, 3),
+        rule,
+        name(body, names),
         name(body, area),
         name(body, receiver),
     );
@@ -89,9 +92,10 @@ pub fn numbers(tag: u8, book: &mut [u8], body: &[u8]) -> Told
     ensures { λ r. ⌜ (numbersOf r ≡ dayNumbers tag (now (book .entry)) (now (body .entry))) × (now (book .exit) ≡ dayAfter tag (now (book .entry)) (now (body .entry))) ⌝ }
 {
     match tag {
-        5 => open(book, body),
+        5 => open(book, body, LESSER, 3),
         6 => clock(book, Minute(number_2(body, 0))),
         7 => submit(book, body),
+        24 => open(book, body, Rule(byte_or_zero(body, 3)), 4),
         _ => convert(book),
     }
 }

@@ -6,6 +6,7 @@ ghost use Rattle.paper.specs.Rules.{closed};
 use super::ranges::clock_allowed;
 use super::ranges::lead_allowed;
 use super::ranges::n_allowed;
+use super::ranges::rule_allowed;
 use eic::eic_valid;
 use field::day_well_formed;
 use layout::area;
@@ -16,6 +17,7 @@ use layout::kind;
 use layout::lead;
 use layout::n_of;
 use layout::receiver;
+use layout::rule_of;
 use paper::Position;
 
 fn day_fields(d: &[u8]) -> bool
@@ -32,7 +34,11 @@ fn day_fields(d: &[u8]) -> bool
 pub fn day_sound(d: &[u8]) -> bool
     ensures { λ r. ⌜ r ≡ daySound (now (d .entry)) ⌝ }
 {
-    day_fields(d) & eic_valid(area(d)) & eic_valid(receiver(d)) & day_zeros(d)
+    day_fields(d)
+        & rule_allowed(rule_of(d))
+        & eic_valid(area(d))
+        & eic_valid(receiver(d))
+        & day_zeros(d)
 }
 
 // "Position p is open exactly when clock + lead ≤ 15 × (p − 1)." Clock and lead together need more than the two bytes that each has.

@@ -1,8 +1,11 @@
 // The ranges of the fields.
 ghost use mathlib.Core.Path.{_≡_};
-ghost use Rattle.paper.specs.Ranges.{wholeBlocks, nAllowed, leadAllowed, clockAllowed, versionAllowed, countAllowed, quantityAllowed, netAllowed};
+ghost use Rattle.paper.specs.Ranges.{wholeBlocks, nAllowed, leadAllowed, clockAllowed, ruleAllowed, versionAllowed, countAllowed, quantityAllowed, netAllowed};
 ghost use Rattle.sound_blocks.specs.Layouts.{allowedIn};
+use paper::LESSER;
 use paper::Minute;
+use paper::Rule;
+use paper::SELLERS;
 
 pub fn whole_blocks(least: usize, most: usize, b: &[u8]) -> bool
     ensures { λ r. ⌜ r ≡ wholeBlocks least most (now (b .entry)) ⌝ }
@@ -27,6 +30,13 @@ pub fn clock_allowed(minute: Minute) -> bool
     ensures { λ r. ⌜ r ≡ clockAllowed (minute .0) ⌝ }
 {
     minute.0 <= 11580
+}
+
+// "0 seller's, 1 lesser", and no other byte.
+pub fn rule_allowed(rule: Rule) -> bool
+    ensures { λ r. ⌜ r ≡ ruleAllowed rule ⌝ }
+{
+    (rule.0 == SELLERS.0) | (rule.0 == LESSER.0)
 }
 
 pub fn version_allowed(version: u16) -> bool

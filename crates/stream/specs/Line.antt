@@ -45,7 +45,7 @@ hexLine s = hexText s ++ 10 ∷ []
 
 -- ---- by the record's tag
 
--- rows from tag 0, which is none, as is 24
+-- rows from tag 0, which is none
 unfoldable pub words : Bytes
 words =
     lines
@@ -73,7 +73,7 @@ words =
     ∷ text "seal"
     ∷ text "code"
     ∷ text "judge"
-    ∷ text ""
+    ∷ text "open_by"
     ∷ text "convert"
     ∷ [])
 

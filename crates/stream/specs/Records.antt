@@ -40,7 +40,7 @@ rows =
     ∷ sizes 512 512  -- seal
     ∷ sizes 1 1  -- code
     ∷ sizes 0 131072  -- judge
-    ∷ unknown
+    ∷ sizes 7 199  -- open_by
     ∷ sizes 0 0  -- convert
     ∷ []
 

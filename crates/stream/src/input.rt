@@ -43,7 +43,7 @@ fn sizes_of(tag: u8) -> Sizes
         Sizes(512, 512), // seal
         Sizes(1, 1), // code
         Sizes(0, 131072), // judge
-        Sizes(1, 0),
+        Sizes(7, 199), // open_by
         Sizes(0, 0), // convert
     ];
     let k = tag as usize;

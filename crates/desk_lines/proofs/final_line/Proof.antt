@@ -1,4 +1,4 @@
--- The answer, and the newline of a refusal, else the quantity.
+-- The answer, and the newline of a refusal, else the quantity and its rule.
 use Rattle.laws.specs.Kit.{arith, refl, is-equal, is-other}
 use Rattle.paper.specs.Listing.{text}
 use Rattle.desk_lines.specs.Lines.{telling, finalLine}
@@ -12,7 +12,7 @@ returns c = rw (is-other _ _ (c .before .before .before .before .if1 .taken)) (t
 
 returns-2 : tie.Need-returns-2
 unfolding finalLine telling text
-returns-2 c = rw (is-equal _ _ (c .before .before .before .before .before .before .before .before .before .before .before .before .before .before .if1 .left)) (then (c .before .before .before .before .before .before .before .before .before .before .before .before .before .before .before .before .before .before .put-answer-of .ensures) (then (then (c .before .before .before .before .before .before .before .before .before .before .before .put .ensures) (c .before .before .before .before .before .before .before .put-megawatts .ensures)) (c .before .before .put2 .ensures)))
+returns-2 c = rw (is-equal _ _ (c .before .before .before .before .before .before .before .before .before .before .before .before .before .if1 .left)) (then (c .before .before .before .before .before .before .before .before .before .before .before .before .before .before .before .before .before .put-answer-of .ensures) (then (then (c .before .before .before .before .before .before .before .before .before .before .put .ensures) (c .before .before .before .before .before .before .put-megawatts .ensures)) (c .before .before .put-chosen .ensures)))
 
 pub final-line-spec : {M : Type 1} → statement M
-final-line-spec = tie.close (tie.spec (λ c κs. tt) (λ c κs. tt) (λ c. omega arith) returns (λ c. refl) (λ c κs. tt) (λ c κs. tt) (λ c. refl) (λ c κs. tt) (λ c. omega arith) returns-2)
+final-line-spec = tie.close (tie.spec (λ c κs. tt) (λ c κs. tt) (λ c. omega arith) returns (λ c. refl) (λ c κs. tt) (λ c κs. tt) (λ c κs. tt) (λ c. omega arith) returns-2)

@@ -9,16 +9,16 @@ use Rattle.paper.specs.Opening.{Opening, dayBlockOf}
 use Rattle.facts.specs.Check.{part-sealed}
 use Rattle.opening.specs.Sized.{Sized}
 
-abbrev pub numbers : ℕ → ℕ → Bytes
-numbers n lead = 3 ∷ n ∷ little 2 lead ++ little 2 0 ++ little 2 0
+abbrev pub numbers : (n : ℕ) (lead : ℕ) (rule : ℕ) → Bytes
+numbers n lead rule = 3 ∷ n ∷ little 2 lead ++ little 2 0 ++ (rule ∷ 0 ∷ [])
 
 -- the day block before it is sealed, field by field
 abbrev pub plain : Opening → Bytes
-plain o = numbers (o .n) (o .lead) ++ (o .day ++ (replicate 8 0 ++ (o .area ++ (o .receiver ++ replicate 456 0))))
+plain o = numbers (o .n) (o .lead) (o .rule .0) ++ (o .day ++ (replicate 8 0 ++ (o .area ++ (o .receiver ++ replicate 456 0))))
 
 pub day-block-plain : (o : Opening) → dayBlockOf o ≡ sealed (plain o)
 unfolding dayBlockOf
-day-block-plain o = ap sealed (joined (numbers (o .n) (o .lead)) (o .day) (replicate 8 0) (o .area) (o .receiver) (replicate 456 0))
+day-block-plain o = ap sealed (joined (numbers (o .n) (o .lead) (o .rule .0)) (o .day) (replicate 8 0) (o .area) (o .receiver) (replicate 456 0))
   where
     joined : (n d z a r y : Bytes) → n ++ d ++ z ++ a ++ r ++ y ≡ n ++ (d ++ (z ++ (a ++ (r ++ y))))
     joined n d z a r y = simp append-assoc
@@ -59,7 +59,7 @@ module _ (o : Opening) (s : Sized (o .day) (o .area) (o .receiver)) where
   unfolding dayZeros zeros every is _and_ part little
   zeros-of =
       rw (
-        field 6 2 (omega arith),
+        field 7 1 (omega arith),
         field 16 8 (omega arith) ∙ part-over (o .day) _ 8 0 8 (s .day-8),
         field 56 452 (omega arith) ∙ part-over (o .day) _ 8 40 452 (s .day-8) ∙ part-over (o .area) _ 16 16 452 (s .area-16) ∙ part-over (o .receiver) _ 16 0 452 (s .receiver-16),
       )

@@ -9,17 +9,17 @@ use Rattle.opening.specs.Sized.{Sized}
 use Rattle.laws.specs.Bytes.Laws.{written-here, written-over}
 use Rattle.opening.proofs.Laws.DayBlock.{numbers, plain, day-block-plain}
 
-numbers-written : (n lead : ℕ) → written 2 (little 2 lead) (set (set (replicate 512 0) 0 3) 1 n) ≡ numbers n lead ++ replicate 504 0
+numbers-written : (n lead rule : ℕ) → set (written 2 (little 2 lead) (set (set (replicate 512 0) 0 3) 1 n)) 6 rule ≡ numbers n lead rule ++ replicate 504 0
 unfolding written little
-numbers-written n lead = refl
+numbers-written n lead rule = refl
 
 module _ (o : Opening) (s : Sized (o .day) (o .area) (o .receiver)) where
-  block-written : written 40 (o .receiver) (written 24 (o .area) (written 8 (o .day) (written 2 (little 2 (o .lead)) (set (set (replicate 512 0) 0 3) 1 (o .n))))) ≡ plain o
+  block-written : written 40 (o .receiver) (written 24 (o .area) (written 8 (o .day) (set (written 2 (little 2 (o .lead)) (set (set (replicate 512 0) 0 3) 1 (o .n))) 6 (o .rule .0)))) ≡ plain o
   unfolding little
-  block-written = rw (numbers-written (o .n) (o .lead), day-written, area-written) receiver-written
+  block-written = rw (numbers-written (o .n) (o .lead) (o .rule .0), day-written, area-written) receiver-written
     where
       front : Bytes
-      front = numbers (o .n) (o .lead)
+      front = numbers (o .n) (o .lead) (o .rule .0)
 
       day-written : written 8 (o .day) (front ++ replicate 504 0) ≡ front ++ (o .day ++ replicate 496 0)
       day-written = written-over front (replicate 504 0) (o .day) 8 0 refl ∙ ap (λ x. front ++ x) (written-here (replicate 8 0) (replicate 496 0) (o .day) (s .day-8))

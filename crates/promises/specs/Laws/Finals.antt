@@ -1,5 +1,5 @@
--- A final value once given stays: the clock does not fall and the lead does not change, so a closed position stays closed; a pair once held stays held, by rule
--- 16; no message changes a value at a closed position, nor brings one in, by rule 14; and a conversion changes no value.
+-- A final value once given stays: the clock does not fall and the lead does not change, so a closed position stays closed; the rule does not change; a pair once held
+-- stays held, by rule 16; no message changes a value at a closed position, nor brings one in, by rule 14; and a conversion changes no value.
 use Rattle.laws.specs.Base.{_≡_, refl, sym, ap, _∙_, Bool, true, false, cond, true≢false, Option, none, some, Option·getD, Option·map, List, [], _∷_, _++_, ℕ, zero, suc, _+_, _-_, _*_, _≤_, _<_, le-refl, le-trans, arith}
 use Rattle.laws.specs.Tests.{_or_, neg, is, less}
 use Rattle.laws.specs.Tests.Laws.{split, or-left, or-right, or-yes-left, or-yes-right, or-else, neg-yes, neg-true, is-yes, is-no, less-no, upto-no, upto-false}
@@ -8,7 +8,7 @@ use Rattle.laws.specs.Lists.Same.{same-yes}
 use Rattle.laws.specs.Lists.Each.{all-find}
 use Rattle.laws.specs.Lists.Search.{has-yes, has-no-find, find-passes}
 use Rattle.paper.specs.declared.FinalAnswer.{FinalAnswer}
-use Rattle.paper.specs.Layout.{Bytes, Block, nOf, lead, clockPlus10080, sender, pair, quantities, entry, quantity, withClock}
+use Rattle.paper.specs.Layout.{Bytes, Block, nOf, lead, clockPlus10080, ruleOf, sender, pair, quantities, entry, quantity, withClock}
 use Rattle.paper.specs.Book.{dayBlock, used, ownSeries, pairIs}
 use Rattle.paper.specs.Sound.{sound}
 use Rattle.paper.specs.Rules.{numberOf, isOpen, closed, storedOf, verdict}
@@ -17,7 +17,7 @@ use Rattle.paper.specs.Finals.{held, isHeld, heldAt, finalRefused, finalIn, fin
 use Rattle.paper.specs.Clock.{clockAnswer, clockMoved}
 use Rattle.paper.specs.Conversion.{conversionNumber, converted}
 use Rattle.paper.specs.Calls.{Call, Desk, step, run, opening, clockMove, submission, conversion, reading}
-use Rattle.facts.specs.Layout.{clock-with-clock, n-with-clock, lead-with-clock, entry-quantities, quantity-nothing, entry-nothing}
+use Rattle.facts.specs.Layout.{clock-with-clock, n-with-clock, lead-with-clock, rule-with-clock, entry-quantities, quantity-nothing, entry-nothing}
 use Rattle.promises.specs.Words.{NotOpened, Unopened, finalGiven, Later}
 use Rattle.facts.specs.Sound.{Sound, sound-says, is-sound, day-n, day-block-length}
 use Rattle.facts.specs.Verdict.{Line, Accepts, accepts}
@@ -43,12 +43,13 @@ closed-later d e p l c h =
     neg-true _ (upto-false _ _ (omega arith))
 
 pub later-refl : (b : Bytes) → Later b b
-later-refl b = record { n = refl; leads = refl; clocks = le-refl (clockPlus10080 (dayBlock b)); kept = λ e p h. h; values = λ e p k l h. refl }
+later-refl b = record { n = refl; leads = refl; rules = refl; clocks = le-refl (clockPlus10080 (dayBlock b)); kept = λ e p h. h; values = λ e p k l h. refl }
 
 pub later-trans : (a b c : Bytes) → Later a b → Later b c → Later a c
 later-trans a b c f g = record {
   n = g .n ∙ f .n;
   leads = g .leads ∙ f .leads;
+  rules = g .rules ∙ f .rules;
   clocks = le-trans (f .clocks) (g .clocks);
   kept = λ e p h. g .kept e p (f .kept e p h);
   values = λ e p k l h. g .values e p k l (closed-later (dayBlock a) (dayBlock b) (k + 1) (f .leads) (f .clocks) h) ∙ f .values e p k l h;
@@ -64,6 +65,7 @@ later-moved book minute m =
     record {
       n = ap nOf d ∙ n-with-clock minute (dayBlock book);
       leads = ap lead d ∙ lead-with-clock minute (dayBlock book);
+      rules = ap ruleOf d ∙ rule-with-clock minute (dayBlock book);
       clocks = rw (d, k) (m .later);
       kept = λ e p h. rw u h;
       values = λ e p i l h. rw u;
@@ -133,6 +135,7 @@ module _ (book message : Bytes) (a : Accepts book message) where
   later-accepted = record {
     n = ap nOf (day-block-accepted book message a);
     leads = ap lead (day-block-accepted book message a);
+    rules = ap ruleOf (day-block-accepted book message a);
     clocks = rw (day-block-accepted book message a) (le-refl (clockPlus10080 (dayBlock book)));
     kept = kept-now;
     values = values-now;
@@ -144,6 +147,7 @@ later-converted : (book : Bytes) → Converts book → Later book (converted boo
 later-converted book c = record {
   n = ap nOf (day-block-converted book c);
   leads = ap lead (day-block-converted book c);
+  rules = ap ruleOf (day-block-converted book c);
   clocks = rw (day-block-converted book c) (le-refl (clockPlus10080 (dayBlock book)));
   kept = λ e p h. ap isHeld (held-converted book c e p) ∙ h;
   values = λ e p k l h. ap (λ o. heldAt o k) (held-converted book c e p);
@@ -181,6 +185,9 @@ unfolding run
 later-run k [] s = later-refl (k .book)
 later-run k (c ∷ cs) s = later-trans _ _ _ (later-step k c (s .0)) (later-run (step k c) cs (s .1))
 
+pub rule-stays : (k : Desk) (calls : List Call) → Unopened k calls → ruleOf (dayBlock ((run k calls) .book)) ≡ ruleOf (dayBlock (k .book))
+rule-stays k calls q = (later-run k calls q) .rules
+
 -- ---- the reading
 
 refused-not-given : (k v : ℕ) → finalRefused (suc k) ≡ finalGiven v → ⊥
@@ -207,6 +214,7 @@ module _ (b c : Bytes) (f : Later b c) (few : nOf (dayBlock b) ≤ 100) (seller 
       let l : p - 1 < 100 = omega (arith, position t, less-no _ _ (or-right _ _ t)) in
       rw (
         f .n,
+        f .rules,
         t,
         closed-later (dayBlock b) (dayBlock c) p (f .leads) (f .clocks) u,
         either _ _ (isHeld (sold (used c))) (isHeld (bought (used c))) (f .kept seller (buyer ++ seller)) (f .kept buyer (buyer ++ seller)) w,

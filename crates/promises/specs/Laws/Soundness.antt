@@ -10,7 +10,7 @@ use Rattle.laws.specs.Bytes.{little}
 use Rattle.laws.specs.Bytes.Laws.{written-length}
 use Rattle.laws.specs.Cut.Laws.{cut-all}
 use Rattle.paper.specs.Check.{checkRight}
-use Rattle.paper.specs.Layout.{Bytes, Block, blocks, zeros, nOf, dayOfBook, area, receiver, withClock}
+use Rattle.paper.specs.Layout.{Bytes, Block, blocks, zeros, nOf, ruleOf, dayOfBook, area, receiver, withClock}
 use Rattle.paper.specs.Ranges.{clockAllowed}
 use Rattle.paper.specs.Book.{dayBlock, slots, isFree, used}
 use Rattle.paper.specs.Sound.{dayFields, daySound, senderFields, senderDayAndNets, senderSound, seriesFields, seriesCodes, seriesValues, seriesSound, usedSound, sound}
@@ -19,7 +19,7 @@ use Rattle.paper.specs.Acceptance.{accepted, submitted}
 use Rattle.paper.specs.Opening.{Opening, dayBlockOf, openNumber, opened}
 use Rattle.paper.specs.Clock.{clockAnswer, clockMoved}
 use Rattle.facts.specs.Check.{sealed-right}
-use Rattle.facts.specs.Layout.{with-clock-length, clock-with-clock, kind-with-clock, n-with-clock, lead-with-clock, day-of-book-with-clock, area-with-clock, receiver-with-clock, day-zeros-with-clock}
+use Rattle.facts.specs.Layout.{with-clock-length, clock-with-clock, kind-with-clock, n-with-clock, lead-with-clock, rule-with-clock, day-of-book-with-clock, area-with-clock, receiver-with-clock, day-zeros-with-clock}
 use Rattle.facts.specs.Book.{day-block-append, slots-append, free-right}
 use Rattle.facts.specs.Sound.{Sound, is-sound, day-block-length}
 use Rattle.facts.specs.Verdict.{Accepts, accepts}
@@ -45,19 +45,21 @@ sound-accepted book message a = sound-rewritten book (afterOf book message) (rew
 day-sound-moved : (minute : ℕ) (d : Block) → length d ≡ 512 → minute ≤ 11580 → daySound d ≡ true → daySound (withClock minute d) ≡ true
 unfolding daySound dayFields clockAllowed
 day-sound-moved minute d e h k =
-    let f = and-left _ _ (and-left _ _ (and-left _ _ k)) in
+    let g = and-left _ _ (and-left _ _ (and-left _ _ k)) in
+    let f = and-left _ _ g in
     rw (
       kind-with-clock minute d,
       n-with-clock minute d,
       lead-with-clock minute d,
       clock-with-clock minute d
           (omega arith) e,
+      rule-with-clock minute d,
       day-of-book-with-clock minute d,
       area-with-clock minute d,
       receiver-with-clock minute d,
       day-zeros-with-clock minute d,
     )
-    (and-both _ _ (and-both _ _ (and-both _ _ (and-both _ _ (and-both _ _ (and-left _ _ (and-left _ _ f)) (upto-true _ _ h)) (and-right _ _ f))
+    (and-both _ _ (and-both _ _ (and-both _ _ (and-both _ _ (and-both _ _ (and-both _ _ (and-left _ _ (and-left _ _ f)) (upto-true _ _ h)) (and-right _ _ f)) (and-right _ _ g))
     (and-right _ _ (and-left _ _ (and-left _ _ k)))) (and-right _ _ (and-left _ _ k))) (and-right _ _ k))
 
 -- what a used block takes of the day block
@@ -164,6 +166,10 @@ module _ (book : Bytes) (o : Opening) (p : Opens book o) where
   }
 
 -- ---- as tests
+
+-- and the rule that it names is the book's
+pub opened-rule : (book : Bytes) (o : Opening) → openNumber book o ≡ 0 → ruleOf (dayBlock (opened book o)) ≡ o .rule
+opened-rule book o e = let p = opens book o e in ap ruleOf (day-block-opened book o p) ∙ p .rule
 
 pub opened-sound : (book : Bytes) (o : Opening) → openNumber book o ≡ 0 → sound (opened book o) ≡ true
 opened-sound book o e = is-sound _ (sound-opened book o (opens book o e))

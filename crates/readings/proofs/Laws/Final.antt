@@ -2,7 +2,7 @@
 use Rattle.laws.specs.Kit.{_≡_, true, false, List, ℕ, _-_, _≤_, _<_, _or_, neg, is-equal, is-other, less-true, less-false}
 use Rattle.laws.specs.Bytes.{part}
 use Rattle.paper.specs.declared.FinalAnswer.{FinalAnswer}
-use Rattle.paper.specs.Layout.{Bytes, Block, nOf}
+use Rattle.paper.specs.Layout.{Bytes, Block, nOf, ruleOf}
 use Rattle.paper.specs.Book.{dayBlock, used}
 use Rattle.paper.specs.Sound.{sound}
 use Rattle.paper.specs.Rules.{closed}
@@ -24,7 +24,7 @@ module _ (d : Block) (us : List Block) (seller buyer : Bytes) (p : ℕ) where
       unfolding finalIn _or_ neg
       still-open e = rw (is-other p 0 n, less-false (nOf d) p h, e)
 
-      pub held-final : closed d p ≡ true → {r : FinalAnswer} → r ≡ finalHeld us seller buyer (p - 1) → r ≡ finalIn d us seller buyer p
+      pub held-final : closed d p ≡ true → {r : FinalAnswer} → r ≡ finalHeld (ruleOf d) us seller buyer (p - 1) → r ≡ finalIn d us seller buyer p
       unfolding finalIn _or_ neg finalHeld
       held-final e f = rw (is-other p 0 n, less-false (nOf d) p h, e) f
 

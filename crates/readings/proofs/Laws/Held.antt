@@ -2,6 +2,7 @@
 use Rattle.laws.specs.Kit.{_≡_, true, false, List, [], _++_, ℕ, arith, _and_, neg, is, split, neg-or-neg, is-yes, is-no}
 use Rattle.laws.specs.Lists.{place}
 use Rattle.laws.specs.Slices.{part-past}
+use Rattle.paper.specs.declared.Rule.{Rule}
 use Rattle.paper.specs.Layout.{Bytes, Block, quantities, entry}
 use Rattle.paper.specs.Book.{numbered, slotOf, isSeriesOfPair}
 use Rattle.paper.specs.Finals.{finalOf, held, isHeld, heldAt, finalRefused}
@@ -25,12 +26,12 @@ module _ (us : List Block) (e p : Bytes) (t : ℕ) (q : t ≡ place (isSeriesOfP
       (λ h. let z : t ≡ 0 = is-yes _ _ h in rw (found-none (isSeriesOfPair (slotOf us e) p) us t q z, z, part-past 108 400 [] (omega arith)))
       (λ h. rw (found-some (isSeriesOfPair (slotOf us e) p) us t q (is-no _ _ h)))
 
-module _ (us : List Block) (seller buyer : Bytes) (k s b : ℕ) (e : s ≡ place (isSeriesOfPair (slotOf us seller) (buyer ++ seller)) us) (f : b ≡ place (isSeriesOfPair (slotOf us buyer) (buyer ++ seller)) us) where
-  pub held-none : (is s 0 and is b 0) ≡ true → finalRefused 26 ≡ finalHeld us seller buyer k
+module _ (rule : Rule) (us : List Block) (seller buyer : Bytes) (k s b : ℕ) (e : s ≡ place (isSeriesOfPair (slotOf us seller) (buyer ++ seller)) us) (f : b ≡ place (isSeriesOfPair (slotOf us buyer) (buyer ++ seller)) us) where
+  pub held-none : (is s 0 and is b 0) ≡ true → finalRefused 26 ≡ finalHeld rule us seller buyer k
   unfolding finalHeld
   held-none h = rw (held-is us seller (buyer ++ seller) s e, held-is us buyer (buyer ++ seller) b f, neg-or-neg (is s 0) (is b 0), h)
 
-  pub held-some : (is s 0 and is b 0) ≡ false → record { number = 0; kilowatts = finalOf (entry (quantities (numbered us s)) k) (entry (quantities (numbered us b)) k) } ≡ finalHeld us seller buyer k
+  pub held-some : (is s 0 and is b 0) ≡ false → record { number = 0; kilowatts = finalOf rule (entry (quantities (numbered us s)) k) (entry (quantities (numbered us b)) k) } ≡ finalHeld rule us seller buyer k
   unfolding finalHeld
   held-some h =
       rw

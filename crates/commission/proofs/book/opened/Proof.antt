@@ -5,13 +5,13 @@ use Rattle.paper.specs.declared.OpenAnswer.{OpenAnswer}
 use Rattle.paper.specs.Listing.{text}
 use Rattle.paper.specs.Opening.{openAnswer}
 use Rattle.desk_text.specs.Arguments.{wordValue}
-use Rattle.cases.specs.Examples.{area, receiver, day, parameters}
+use Rattle.cases.specs.Examples.{area, receiver, day}
 use Rattle.cases_site.specs.Site.{opening}
 use Rattle.commission.proofs.book.opened.Statement.{statement}
 use Rattle.commission.proofs.book.opened.Tie as tie
 
 returns : tie.Need-returns
-unfolding opening parameters area receiver day text openAnswer
+unfolding opening area receiver day text openAnswer
 returns c =
     let o = c .before .before in
     let v = o .before .before .before .before in

@@ -11,7 +11,10 @@ returns c =
     let r = c .before .before in
     let a = r .before .before .before .before in
     let d = a .before .before .before .before in
-    r .write-bytes3 .ensures ∙ ap (written 40 _) (a .write-bytes2 .ensures ∙ ap (written 24 _) (d .write-bytes .ensures ∙ ap (written 8 _) (d .before .before .before .before .write-front .ensures)))
+    let p = d .before .before .before .before in
+    r .write-bytes3 .ensures
+    ∙ ap (written 40 _) (a .write-bytes2 .ensures
+    ∙ ap (written 24 _) (d .write-bytes .ensures ∙ ap (written 8 _) (rw (p .before .before .before .before .write-front .ensures) at (p .put-byte .ensures))))
 
 pub write-day-fields-spec : {M : Type 1} → statement M
-write-day-fields-spec = tie.close (tie.spec (λ c κs. tt) (λ c κs. tt) (λ c κs. tt) (λ c κs. tt) (search needs) returns)
+write-day-fields-spec = tie.close (tie.spec (λ c κs. tt) (λ c κs. tt) (λ c κs. tt) (λ c κs. tt) (λ c κs. tt) (search needs) returns)

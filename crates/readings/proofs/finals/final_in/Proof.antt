@@ -20,9 +20,10 @@ early c =
 
 past : tie.Need-returns-4
 past c =
-    let shut = c .before .before in
+    let rule = c .before in
+    let shut = rule .before .before in
     let n = shut .before .before in
-    held-final _ _ _ _ _ (n .before .if1 .left) (rw (n .n-of .ensures) at (shut .before .if2 .left)) (told (shut .closed .ensures) (c .before .if3 .left)) (c .final-held .ensures)
+    held-final _ _ _ _ _ (n .before .if1 .left) (rw (n .n-of .ensures) at (shut .before .if2 .left)) (told (shut .closed .ensures) (rule .before .if3 .left)) (rw (rule .rule-of .ensures) at (c .final-held .ensures))
 
 pub final-in-spec : {M : Type 1} → statement M
-final-in-spec = tie.close (tie.spec (λ c κs. search needs) zero (λ c κs. search needs) (λ c. search needs) (λ c κs. search needs) above (λ c κs. search needs) (λ c κs. search needs) early (λ c. search needs) (λ c κs. search needs) past)
+final-in-spec = tie.close (tie.spec (λ c κs. search needs) zero (λ c κs. search needs) (λ c. search needs) (λ c κs. search needs) above (λ c κs. search needs) (λ c κs. search needs) early (λ c κs. search needs) (λ c. search needs) (λ c κs. search needs) past)

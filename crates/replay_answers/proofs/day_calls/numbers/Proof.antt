@@ -1,6 +1,6 @@
 -- The code goes by the definition's cases.
 use Rattle.laws.specs.Kit.{arith, is, is-other}
-use Rattle.replay_answers.specs.Answers.{dayNumbers, dayAfter}
+use Rattle.replay_answers.specs.Answers.{dayNumbers, dayAfter, ruleNamed}
 use Rattle.replay_answers.proofs.day_calls.numbers.Statement.{statement}
 use Rattle.replay_answers.proofs.day_calls.numbers.Tie as tie
 
@@ -23,14 +23,20 @@ returns-3 c =
     rw (v .before .before .match .keys3) (v .submit .ensures)
 
 returns-4 : tie.Need-returns-4
-unfolding dayNumbers dayAfter
+unfolding dayNumbers dayAfter ruleNamed is
 returns-4 c =
+    let o = c .before .before in
+    rw (o .before .before .before .match .keys4) (rw (o .before .byte-or-zero .ensures) at (o .open2 .ensures))
+
+returns-5 : tie.Need-returns-5
+unfolding dayNumbers dayAfter
+returns-5 c =
     let k = c .before .before in
     let rest = k .before .before .match .rest in
-    rw (is-other _ _ (rest .0 .0 .1), is-other _ _ (rest .0 .1), is-other _ _ (rest .1)) (k .convert .ensures)
+    rw (is-other _ _ (rest .0 .0 .0 .1), is-other _ _ (rest .0 .0 .1), is-other _ _ (rest .0 .1), is-other _ _ (rest .1)) (k .convert .ensures)
 
 pub numbers-spec : {M : Type 1} → statement M
 numbers-spec =
     tie.close
-    (tie.spec (λ c κs. tt) (λ c κs. tt) (λ c κs. tt) (λ c κs. tt) (λ c κs. tt) (λ c. omega arith) returns
-    (λ c. omega arith) returns-2 (λ c. omega arith) returns-3 (λ c. omega arith) returns-4)
+    (tie.spec (λ c κs. tt) (λ c κs. tt) (λ c κs. tt) (λ c κs. tt) (λ c κs. tt) (λ c κs. tt) (λ c κs. tt) (λ c. omega arith) returns
+    (λ c. omega arith) returns-2 (λ c. omega arith) returns-3 (λ c. omega arith) returns-4 (λ c. omega arith) returns-5)

@@ -19,7 +19,7 @@ returns-2 c =
     let e = l .before .before in
     let n = e .before in
     let filled = rw (n .name-end3 .ensures, n .before .name-end2 .ensures, n .before .before .name-end .ensures) at (e .if1 .left) in
-    let named = rw (o .before .before .before .name .ensures, o .before .before .name2 .ensures, o .before .name3 .ensures) at (o .«open» .ensures) in
+    let named = rw (o .before .before .before .name .ensures, o .before .before .name2 .ensures, o .before .name3 .ensures) at (o .open-by .ensures) in
     let k = rw (l .before .byte-or-zero .ensures, l .number-2 .ensures, n .before .name-end2 .ensures, n .before .before .name-end .ensures) at named in
     rw (is-equal _ _ filled) (rw (k .0) at (c .two .ensures), k .1)
 

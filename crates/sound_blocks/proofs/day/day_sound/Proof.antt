@@ -13,10 +13,12 @@ returns c =
       c .before .before .receiver .ensures,
       c .before .before .before .eic-valid .ensures,
       c .before .before .before .before .area .ensures,
-      c .before .before .before .before .before .day-fields .ensures,
+      c .before .before .before .before .before .rule-allowed .ensures,
+      c .before .before .before .before .before .before .rule-of .ensures,
+      c .before .before .before .before .before .before .before .day-fields .ensures,
     )
 
 pub day-sound-spec : {M : Type 1} → statement M
 day-sound-spec =
     tie.close
-    (tie.spec (λ c κs. search needs) (λ c κs. search needs) (λ c κs. search needs) (λ c κs. search needs) (λ c κs. search needs) (λ c κs. search needs) returns)
+    (tie.spec (λ c κs. search needs) (λ c κs. search needs) (λ c κs. search needs) (λ c κs. search needs) (λ c κs. search needs) (λ c κs. search needs) (λ c κs. search needs) (λ c κs. search needs) returns)
