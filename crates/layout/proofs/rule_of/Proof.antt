@@ -1,6 +1,4 @@
 -- The offset is the definition's.
-use Rattle.laws.specs.Kit.{ap}
-use Rattle.paper.specs.declared.Rule.{Rule}
 use Rattle.paper.specs.Layout.{ruleOf}
 use Rattle.layout.proofs.rule_of.Statement.{statement}
 use Rattle.layout.proofs.rule_of.Tie as tie
