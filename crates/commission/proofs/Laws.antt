@@ -1,6 +1,6 @@
 -- Laws of the check on site: rows that are passed.
 use Rattle.laws.specs.Base.{_≡_, refl, ap, Bool, List, ℕ, zero, suc, _+_, _-_, _≤_, _<_, add-one, sub-zero, arith, length}
-use Rattle.laws.specs.Kit.{_and_, is, is-equal, is-other}
+use Rattle.laws.specs.Kit.{_and_, is-equal, is-other}
 use Rattle.desk_text.specs.Words.{pastPiece, pastPieces, pieceNumbered}
 use Rattle.cases_site.specs.Site.{rowRight, rowBook, rowsFrom}
 

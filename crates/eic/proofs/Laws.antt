@@ -1,5 +1,5 @@
 -- Laws of the check, as the code asks for them.
-use Rattle.laws.specs.Kit.{_≡_, refl, sym, ap, _∙_, Bool, true, false, List, ℕ, _+_, _-_, _*_, _≤_, _<_, arith, length, take, getD, _++_, split, zero, suc, _%_, [], _∷_, map, mul-le-mul, add-assoc, add-zero, zero-add, add-one, set, length-map, take-all, take-suc, _and_, neg, is, and-left, and-right, and-no-right, is-yes, is-no, is-equal, is-other, upto-yes, neg-false}
+use Rattle.laws.specs.Kit.{_≡_, refl, sym, ap, _∙_, Bool, true, false, List, ℕ, _+_, _-_, _*_, _≤_, _<_, arith, length, take, getD, split, zero, suc, _%_, [], _∷_, map, mul-le-mul, add-assoc, add-zero, zero-add, add-one, set, length-map, take-all, take-suc, _and_, neg, is, and-left, and-right, and-no-right, is-yes, is-no, is-equal, is-other, upto-yes}
 use native.Mathlib.Nat.{one-mul}
 use lib.Seq.{take-suc-set}
 use Rattle.laws.specs.Tests.Laws.{neg-yes}

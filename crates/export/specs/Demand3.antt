@@ -2,7 +2,7 @@
 -- then, oldest first, behind those that the conversion found kept. A contract that cites these words is read alone: what one call leaves is what the next one takes up.
 use mathlib.Core.Path.{_≡_}
 use mathlib.Core.Bool.{true, cond}
-use mathlib.Core.Option.{Option, none, some, Option·map, Option·getD}
+use mathlib.Core.Option.{none, some, Option·map, Option·getD}
 use mathlib.Core.List.{List, [], _∷_, _++_}
 use Prim.Native.Nat.{ℕ}
 use Rattle.laws.specs.Tests.{is}

@@ -1,19 +1,11 @@
 -- Quantities within their ranges, position by position: k is position k + 1.
-use Rattle.laws.specs.Base.{_≡_, sym, _∙_, Bool, true, ℕ, zero, suc, _+_, _-_, _*_, _≤_, _<_, arith}
-use Rattle.laws.specs.Tests.{less, below}
-use Rattle.laws.specs.Tests.Laws.{split, and-left, and-right, less-yes, less-no, upto-yes}
+use Rattle.laws.specs.Base.{_≡_, sym, _∙_, true, ℕ, _+_, _-_, _*_, _≤_, _<_, arith}
+use Rattle.laws.specs.Tests.Laws.{and-left, and-right, upto-yes, below-at}
 use Rattle.laws.specs.Bytes.{number}
 use Rattle.laws.specs.Bytes.Laws.{number-part}
 use Rattle.paper.specs.Layout.{Block, zeros, quantity, aboveN}
 use Rattle.paper.specs.Ranges.{quantityAllowed, quantitiesAllowed}
 use Rattle.facts.specs.Layout.{value-zeros, zeros-part}
-
-below-at : (p : ℕ → Bool) (n k : ℕ) → below p n ≡ true → k < n → p k ≡ true
-unfolding below
-below-at p zero k e h = absurd (omega arith)
-below-at p (suc n) k e h = split (less k n)
-    (λ t. below-at p n k (and-left _ _ e) (less-yes _ _ t))
-    (λ t. let q : k ≡ n = omega (arith, less-no _ _ t) in rw q (and-right _ _ e))
 
 zero-above : (n k : ℕ) (x : Block) → zeros (aboveN n x) ≡ true → n ≤ k → k < 100 → quantity x k ≡ 0
 unfolding aboveN quantity number

@@ -1,11 +1,12 @@
 -- What is written again where it stands changes nothing, and neither does the check of a block whose check is right, as four bytes hold a number in one way only. So a block
 -- whose mark or nets are true is left as it was by a conversion; and a book is its day block, its used slots and the rest.
-use Rattle.laws.specs.Base.{_≡_, refl, sym, ap, ap₂, _∙_, true, List, [], _∷_, _++_, map, append-assoc, ℕ, _+_, _*_, _/_, _%_, _≤_, _<_, arith, length, take, drop, length-drop, length-take-le, take-append-drop, drop-drop}
+use Rattle.laws.specs.Base.{_≡_, refl, sym, ap, _∙_, true, List, _++_, ℕ, _+_, _*_, _/_, _≤_, _<_, arith, length, take, drop, length-take-le}
 use Rattle.laws.specs.Tests.Laws.{is-yes}
 use Rattle.laws.specs.Lists.{All}
+use Rattle.laws.specs.Lists.Each.{map-same}
 use Rattle.laws.specs.Lists.Keep.{until-length, until-take}
 use Rattle.laws.specs.Bytes.{part, value, little, number, written}
-use Rattle.laws.specs.Bytes.Laws.{all-part, written-take-drop}
+use Rattle.laws.specs.Bytes.Laws.{part-length, all-part, three-parts, written-part, little-value}
 use Rattle.laws.specs.Cut.{join}
 use Rattle.laws.specs.Cut.Laws.{width-upto, cut-length, take-cut, join-cut}
 use Rattle.paper.specs.Check.{checkRight, sealed}
@@ -15,33 +16,6 @@ use Rattle.paper.specs.Marks.{markIn}
 use Rattle.paper.specs.Nets.{netsOf}
 use Rattle.paper.specs.Conversion.{convertedBlock, usedConverted}
 use Rattle.facts.specs.Conversion.{by-converted}
-
--- ---- bytes
-
--- the bytes of the number that bytes hold
-little-value : (b : Bytes) → All (λ x. x < 256) b → little (length b) (value b) ≡ b
-unfolding little value
-little-value [] h = refl
-little-value (x ∷ b) h =
-    let l : x < 256 = h .0 in
-    let m : (x + 256 * value b) % 256 ≡ x = omega arith in
-    let q : (x + 256 * value b) / 256 ≡ value b = omega arith in
-    rw (m, q, little-value b (h .1))
-
-part-length : (o n : ℕ) (b : Bytes) → o + n ≤ length b → length (part o n b) ≡ n
-unfolding part
-part-length o n b h = length-take-le n (drop o b) (omega (arith, length-drop o b))
-
-three-parts : (o n : ℕ) (b : Bytes) → take o b ++ part o n b ++ drop (o + n) b ≡ b
-unfolding part
-three-parts o n b =
-    append-assoc (take o b) (take n (drop o b)) (drop (o + n) b) ∙ ap (λ z. take o b ++ (take n (drop o b) ++ z)) (sym (drop-drop n o b))
-    ∙ ap (λ z. take o b ++ z) (take-append-drop n (drop o b)) ∙ take-append-drop o b
-
-written-part : (o n : ℕ) (b : Bytes) → o + n ≤ length b → written o (part o n b) b ≡ b
-written-part o n b h =
-    let l : length (part o n b) ≡ n = part-length o n b h in
-    written-take-drop o (part o n b) b (omega arith) ∙ ap (λ k. take o b ++ part o n b ++ drop (o + k) b) l ∙ three-parts o n b
 
 -- ---- a block whose check is right
 
@@ -66,10 +40,6 @@ module _ (b : Block) (whole : length b ≡ 512) (bytes : All (λ x. x < 256) b) 
       → (isSeries b ≡ true → mark b ≡ markIn n us b) → convertedBlock n us b ≡ b
   converted-same n us v m = by-converted n us (λ z. z ≡ b) b (λ t. ap (λ z. withNets z b) (sym (v t)) ∙ with-nets-same)
       (λ t. ap (λ z. withMark z b) (sym (m t)) ∙ with-mark-same) refl
-
-map-same : (f : Block → Block) (l : List Block) → All (λ x. f x ≡ x) l → map f l ≡ l
-map-same f [] h = refl
-map-same f (x ∷ l) h = ap₂ _∷_ (h .0) (map-same f l (h .1))
 
 pub used-converted-same : (n : ℕ) (us : List Block) → All (λ x. convertedBlock n us x ≡ x) us → usedConverted n us ≡ us
 unfolding usedConverted

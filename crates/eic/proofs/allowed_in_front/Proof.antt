@@ -1,5 +1,5 @@
 -- Each character passed has a value, so that those in front of the first without one are these and those in front of it in the rest.
-use Rattle.laws.specs.Kit.{needs, arith, _≡_, _≤_, _-_, _+_, sym, ap, _∙_, ℕ, true, false, Bool, length, drop, step-byte, end-list, is-equal, is-other, until-rest-start, until-rest-go, until-rest-hit, until-rest-end, is, neg}
+use Rattle.laws.specs.Kit.{needs, arith, _≡_, _≤_, _-_, _+_, sym, ap, _∙_, ℕ, true, false, Bool, length, drop, step-byte, end-list, is-equal, is-other, until-rest-start, until-rest-go, until-rest-hit, until-rest-end, neg}
 use Rattle.laws.specs.Lists.{until}
 use Rattle.laws.specs.Bytes.{part}
 use Rattle.paper.specs.Eic.{characterValue, eicCharacter, allowedInFront}

@@ -1,5 +1,5 @@
 -- A code that is not valid and has fifteen allowed characters in front has a wrong sixteenth, or is all zeros.
-use Rattle.laws.specs.Kit.{_≡_, sym, _∙_, ap, false, cond, ℕ, _≤_, _<_, _+_, arith, split, is-yes, is-no, less-true, less-false, _or_, is, less, neg}
+use Rattle.laws.specs.Kit.{_≡_, sym, _∙_, false, ℕ, _≤_, _<_, _+_, arith, split, is-yes, is-no, less-true, less-false, _or_, is, neg}
 use Rattle.paper.specs.Layout.{Bytes}
 use Rattle.paper.specs.Eic.{eicSum, allowedInFront, sixteenthRight, eicNumber, eicValid}
 use Rattle.eic.proofs.eic_number.Statement.{statement}

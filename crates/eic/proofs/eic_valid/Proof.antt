@@ -1,5 +1,5 @@
 -- The code is the check by the sum of all sixteen values.
-use Rattle.laws.specs.Kit.{sym, _∙_, arith, needs, now, _and_, neg, is, is-other}
+use Rattle.laws.specs.Kit.{sym, _∙_, needs, now, _and_, neg, is, is-other}
 use Rattle.facts.specs.Eic.{eic-valid-says}
 use Rattle.eic.proofs.Laws.{valid-by-sum}
 use Rattle.eic.proofs.eic_valid.Statement.{statement}

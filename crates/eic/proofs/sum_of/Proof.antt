@@ -1,5 +1,5 @@
 -- The sum of the values so far; the weight falls as the place rises.
-use Rattle.laws.specs.Kit.{_≡_, refl, sym, ap, _∙_, ℕ, _≤_, _+_, _-_, _*_, arith, length, take, needs, take-all}
+use Rattle.laws.specs.Kit.{_≡_, refl, ap, _∙_, _≤_, _+_, _-_, _*_, arith, length, take, needs, take-all}
 use Rattle.eic.specs.Values.{weightedValues}
 use Rattle.eic.proofs.Laws.{weighted-more}
 use Rattle.eic.proofs.sum_of.Statement.{statement}

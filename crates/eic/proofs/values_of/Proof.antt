@@ -1,5 +1,5 @@
 -- The values written so far are those of the bytes so far.
-use Rattle.laws.specs.Kit.{_≡_, refl, sym, ap, _∙_, List, ℕ, _≤_, _+_, _-_, arith, length, take, getD, needs, map, length-set, take-all}
+use Rattle.laws.specs.Kit.{_≡_, refl, sym, ap, _∙_, _≤_, _-_, arith, length, take, needs, map, length-set, take-all}
 use Rattle.paper.specs.Eic.{characterValue}
 use Rattle.eic.proofs.Laws.{values-more}
 use Rattle.eic.proofs.values_of.Statement.{statement}

@@ -1,5 +1,5 @@
 -- One test of the length decides both, answer and bytes; the seal of a block is the block crate's.
-use Rattle.laws.specs.Kit.{_≡_, sym, _∙_, needs}
+use Rattle.laws.specs.Kit.{needs}
 use Rattle.export.proofs.Laws.Seal.{seal-refused, seal-done}
 use Rattle.export.proofs.tetherbay_seal.Statement.{statement}
 use Rattle.export.proofs.tetherbay_seal.Tie as tie

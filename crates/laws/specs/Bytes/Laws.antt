@@ -1,5 +1,5 @@
 -- Laws of parts, of lists written over, and of numbers as bytes: what is read after what was written.
-use Rattle.laws.specs.Base.{_≡_, refl, sym, ap, _∙_, List, [], _∷_, _++_, append-assoc, append-nil, ℕ, zero, suc, _+_, _-_, _*_, _/_, _^_, _≤_, _<_, add-suc, add-zero, lt-of-lt-of-le, pow-le-pow-right, pow-suc, pow-zero, suc-add, zero-add, add-one, arith, length, take, drop, getD, set, replicate, drop-of-length-le, length-drop, length-set, length-take, replicate-append-replicate, drop-append-add, drop-append-le, drop-at, drop-drop, drop-set-add, drop-set-lt, length-sets, length-take-le, set-append-left, set-comm, sets, sets-eq, take-add, take-all, take-append-le, take-at, take-nil, take-set-le, take-set-lt, take-suc-set, take-take}
+use Rattle.laws.specs.Base.{_≡_, refl, sym, ap, _∙_, List, [], _∷_, _++_, append-assoc, append-nil, ℕ, zero, suc, _+_, _-_, _*_, _/_, _%_, _^_, _≤_, _<_, add-suc, add-zero, lt-of-lt-of-le, pow-le-pow-right, pow-suc, pow-zero, suc-add, zero-add, add-one, arith, length, take, drop, getD, set, replicate, drop-of-length-le, length-drop, length-set, length-take, replicate-append-replicate, take-append-drop, drop-append-add, drop-append-le, drop-at, drop-drop, drop-set-add, drop-set-lt, length-sets, length-take-le, set-append-left, set-comm, sets, sets-eq, take-add, take-all, take-append-le, take-at, take-nil, take-set-le, take-set-lt, take-suc-set, take-take}
 use Rattle.laws.specs.Lists.{All}
 use Rattle.laws.specs.Lists.Each.{all-take, all-drop, drop-take}
 use Rattle.laws.specs.Bytes.{part, written, value, little, number}
@@ -9,6 +9,10 @@ use Rattle.laws.specs.Bytes.{part, written, value, little, number}
 pub part-length-most : (o n : ℕ) (b : List ℕ) → length (part o n b) ≤ n
 unfolding part
 part-length-most o n b = simp (length-take, length-drop) (omega arith)
+
+pub part-length : (o n : ℕ) (b : List ℕ) → o + n ≤ length b → length (part o n b) ≡ n
+unfolding part
+part-length o n b h = length-take-le n (drop o b) (omega (arith, length-drop o b))
 
 pub part-none : (o : ℕ) (b : List ℕ) → part o 0 b ≡ []
 unfolding part
@@ -116,6 +120,18 @@ pub written-take-drop : (o : ℕ) (v b : List ℕ) → o + length v ≤ length b
 unfolding written
 written-take-drop o v b h = sets-eq v b o h
 
+-- a part written again where it stands
+pub three-parts : (o n : ℕ) (b : List ℕ) → take o b ++ part o n b ++ drop (o + n) b ≡ b
+unfolding part
+three-parts o n b =
+    append-assoc (take o b) (take n (drop o b)) (drop (o + n) b) ∙ ap (λ z. take o b ++ (take n (drop o b) ++ z)) (sym (drop-drop n o b))
+    ∙ ap (λ z. take o b ++ z) (take-append-drop n (drop o b)) ∙ take-append-drop o b
+
+pub written-part : (o n : ℕ) (b : List ℕ) → o + n ≤ length b → written o (part o n b) b ≡ b
+written-part o n b h =
+    let l : length (part o n b) ≡ n = part-length o n b h in
+    written-take-drop o (part o n b) b (omega arith) ∙ ap (λ k. take o b ++ part o n b ++ drop (o + k) b) l ∙ three-parts o n b
+
 pub written-all : (v b : List ℕ) → length v ≡ length b → written 0 v b ≡ v
 written-all v b e =
     let h : length b ≤ 0 + length v = omega arith in
@@ -200,6 +216,16 @@ value-little (suc w) x h =
   where
     small : (y n : ℕ) → y < n * 256 → y / 256 < n
     small y n k = omega arith
+
+-- the bytes of the number that bytes hold
+pub little-value : (b : List ℕ) → All (λ x. x < 256) b → little (length b) (value b) ≡ b
+unfolding little value
+little-value [] h = refl
+little-value (x ∷ b) h =
+    let l : x < 256 = h .0 in
+    let m : (x + 256 * value b) % 256 ≡ x = omega arith in
+    let q : (x + 256 * value b) / 256 ≡ value b = omega arith in
+    rw (m, q, little-value b (h .1))
 
 pub value-small : (l : List ℕ) → All (λ y. y < 256) l → value l < 256 ^ length l
 unfolding value

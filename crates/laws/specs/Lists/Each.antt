@@ -1,5 +1,5 @@
 -- Each element: by its number, by a property of all (All), by a test that all pass (every), and changed (map).
-use Rattle.laws.specs.Base.{_≡_, refl, sym, ap, _∙_, Bool, true, false, true≢false, some, Option·map, List, [], _∷_, _++_, map, ℕ, zero, suc, _+_, _≤_, _<_, suc-add, zero-add, add-one, arith, length, take, drop, getD, take-nil, take-suc}
+use Rattle.laws.specs.Base.{_≡_, refl, sym, ap, ap₂, _∙_, Bool, true, false, true≢false, some, Option·map, List, [], _∷_, _++_, map, ℕ, zero, suc, _+_, _≤_, _<_, suc-add, zero-add, add-one, arith, length, take, drop, getD, take-nil, take-suc}
 use Rattle.laws.specs.Tests.{_and_}
 use Rattle.laws.specs.Tests.Laws.{split, clash, and-left, and-right, and-both, and-true}
 use Rattle.laws.specs.Lists.{find, nth, every, keep, until, All}
@@ -143,6 +143,11 @@ module _ {A : Type 0} where
   drop-take zero n l = rw (zero-add n)
   drop-take (suc o) n [] = rw (suc-add o n) (sym (take-nil n))
   drop-take (suc o) n (x ∷ xs) = rw (suc-add o n) (drop-take o n xs)
+
+  -- a list whose elements f leaves as they are
+  pub map-same : (f : A → A) (l : List A) → All (λ x. f x ≡ x) l → map f l ≡ l
+  map-same f [] h = refl
+  map-same f (x ∷ xs) h = ap₂ _∷_ (h .0) (map-same f xs (h .1))
 
   -- a list whose elements are what f gives of those of l
   pub take-as-map : (f : A → ℕ) (d : A) (l : List A) (v : List ℕ) → ((k : ℕ) → k < length l → getD v k 0 ≡ f (getD l k d)) → length l ≤ length v → take (length l) v ≡ map f l

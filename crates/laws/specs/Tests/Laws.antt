@@ -215,6 +215,13 @@ unfolding below
 below-each p zero f = refl
 below-each p (suc n) f = and-both _ _ (below-each p n (λ k h. f k (omega arith))) (f n (omega arith))
 
+pub below-at : (p : ℕ → Bool) (n k : ℕ) → below p n ≡ true → k < n → p k ≡ true
+unfolding below
+below-at p zero k e h = absurd (omega arith)
+below-at p (suc n) k e h = split (less k n)
+    (λ t. below-at p n k (and-left _ _ e) (less-yes _ _ t))
+    (λ t. let q : k ≡ n = omega (arith, less-no _ _ t) in rw q (and-right _ _ e))
+
 -- tests that agree below n
 pub below-agree : (p q : ℕ → Bool) (n : ℕ) → ((k : ℕ) → k < n → p k ≡ q k) → below p n ≡ below q n
 unfolding below

@@ -1,5 +1,5 @@
 -- What a text is answered does not depend on what stands in the buffer.
-use Rattle.laws.specs.Kit.{_≡_, refl, sym, ap, _∙_, Bool, true, false, List, [], _∷_, _++_, ℕ, _+_, _*_, _≤_, _<_, arith, length, drop, length-append, length-drop, _and_, is, less, upto, split, and-both, less-true, less-false, upto-true, is-equal, is-other}
+use Rattle.laws.specs.Kit.{_≡_, sym, ap, _∙_, true, false, List, [], _∷_, _++_, ℕ, _+_, _*_, _≤_, _<_, arith, length, drop, length-append, length-drop, _and_, is, less, upto, split, and-both, less-true, less-false, upto-true, is-equal, is-other}
 use Rattle.laws.specs.Lists.{same}
 use Rattle.paper.specs.Check.{sealed}
 use Rattle.paper.specs.Layout.{Bytes, Block}

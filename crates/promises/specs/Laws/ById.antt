@@ -1,6 +1,6 @@
 -- Two rows of series that agree in content under every pair agree under every id too, if in each no id and no pair stands twice: a series is then the only one
 -- with its pair and the only one with its id, and id and pair are of its content.
-use Rattle.laws.specs.Base.{_≡_, refl, sym, ap, _∙_, Bool, true, false, true≢false, Option, none, some, Option·map, List, [], _∷_, _++_, ℕ, zero, suc, _+_, _≤_, arith, length, drop, length-append, length-take-le, length-drop}
+use Rattle.laws.specs.Base.{_≡_, refl, sym, ap, _∙_, Bool, true, false, true≢false, Option, none, some, Option·map, List, [], _∷_, _++_, ℕ, zero, suc, _+_, _≤_, arith, length, length-append}
 use Rattle.laws.specs.Tests.{neg}
 use Rattle.laws.specs.Tests.Laws.{split, clash, and-left, and-right, and-both, neg-yes, neg-true, or-yes-left, or-yes-right}
 use Rattle.laws.specs.Lists.{find, place, nth, apart, All}
@@ -8,7 +8,7 @@ use Rattle.laws.specs.Lists.Same.{same-yes, same-equal}
 use Rattle.laws.specs.Lists.Each.{all-nth, all-imply, all-both, all-find, every-all, all-every}
 use Rattle.laws.specs.Lists.Search.{find-passes, find-sieve, nth-place}
 use Rattle.laws.specs.Bytes.{part}
-use Rattle.laws.specs.Bytes.Laws.{part-part, part-append-left, part-over}
+use Rattle.laws.specs.Bytes.Laws.{part-length, part-part, part-append-left, part-over}
 use Rattle.paper.specs.Layout.{Bytes, Block, idOf, pair}
 use Rattle.paper.specs.Book.{idIs, pairIs, slotOf, isSeriesOf, isSeriesOfPair, ownSeries}
 use Rattle.facts.specs.Verdict.{sameIdOrPair}
@@ -47,10 +47,6 @@ module _ {A : Type 0} where
       (apart-less c e Q g xs (q .1) (and-right _ _ a))
 
 -- ---- id and pair are of the content
-
-part-length : (o n : ℕ) (x : Block) → o + n ≤ length x → length (part o n x) ≡ n
-unfolding part
-part-length o n x h = length-take-le n (drop o x) (omega (arith, length-drop o x))
 
 content-middle : (x : Block) → length x ≡ 512 → (o n : ℕ) → o + n ≤ 96 → part (6 + o) n (content x) ≡ part (8 + o) n x
 unfolding content

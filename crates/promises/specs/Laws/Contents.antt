@@ -1,6 +1,6 @@
 -- Two lists, each of series of one sender in a sound book, with the same contents in whatever order: a test that reads contents alone passes on one of them exactly
 -- if it does on the other, and the series under a pair has the same content in both, since a sender has no pair twice.
-use Rattle.laws.specs.Base.{_≡_, refl, sym, ap, _∙_, Bool, true, false, true≢false, some, List, [], _∷_, _++_, ℕ, _+_, _-_, _≤_, arith, length, take, drop, length-append, length-drop, drop-at, length-take-le, take-at}
+use Rattle.laws.specs.Base.{_≡_, refl, sym, ap, _∙_, Bool, true, false, true≢false, some, List, [], _∷_, _++_, ℕ, _+_, _-_, _≤_, arith, length, take, drop, length-append, drop-at, take-at}
 use Rattle.laws.specs.Tests.{neg}
 use Rattle.laws.specs.Tests.Laws.{split, clash, and-left, and-right, neg-yes}
 use Rattle.laws.specs.Lists.{find, has, apart, All}
@@ -9,7 +9,7 @@ use Rattle.laws.specs.Lists.Each.{all-keep, all-kept, all-find, every-all}
 use Rattle.laws.specs.Lists.Search.{has-yes, has-no-find, find-passes, find-has-other}
 use Rattle.laws.specs.Lists.Apart.{apart-keep}
 use Rattle.laws.specs.Bytes.{part}
-use Rattle.laws.specs.Bytes.Laws.{part-part}
+use Rattle.laws.specs.Bytes.Laws.{part-length, part-part}
 use Rattle.paper.specs.Layout.{Bytes, Block, pair}
 use Rattle.paper.specs.Book.{used, slotOf, isSeriesOf, ownSeries, pairIs}
 use Rattle.paper.specs.Sound.{sameSeries}
@@ -28,10 +28,6 @@ pub parts-agree : (o n p m : ℕ) (x y : Bytes) → o ≤ p → p + m ≤ o + n 
 parts-agree o n p m x y h f e =
     let i : o + (p - o) ≡ p = omega arith in
     rw i at (sym (part-part o n (p - o) m x (omega arith)) ∙ ap (part (p - o) m) e ∙ part-part o n (p - o) m y (omega arith))
-
-part-length : (o n : ℕ) (b : Bytes) → o + n ≤ length b → length (part o n b) ≡ n
-unfolding part
-part-length o n b h = length-take-le n (drop o b) (rw (length-drop o b) (omega arith))
 
 append-same : (a b c d : Bytes) (n : ℕ) → length a ≡ n → length c ≡ n → a ++ b ≡ c ++ d → (a ≡ c) × (b ≡ d)
 append-same a b c d n h k e = (sym (take-at a b n h) ∙ ap (take n) e ∙ take-at c d n k, sym (drop-at a b n h) ∙ ap (drop n) e ∙ drop-at c d n k)

@@ -1,5 +1,5 @@
 -- The clauses on the used slots, in the code's order; a sender's count, by its own slot.
-use Rattle.laws.specs.Kit.{_≡_, refl, sym, ap, _∙_, Bool, true, false, List, [], ℕ, _+_, _/_, _<_, add-one, arith, length, getD, _and_, is, split, clash, and-left, and-right, and-both, and-true, and-no-right, and-assoc, _or_, or-left, neg, is-other}
+use Rattle.laws.specs.Kit.{_≡_, refl, sym, _∙_, Bool, true, false, List, [], ℕ, _+_, _/_, _<_, add-one, arith, length, getD, _and_, is, split, clash, and-left, and-right, and-both, and-true, and-no-right, and-assoc, _or_, or-left, neg, is-other}
 use Rattle.laws.specs.Lists.{every, apart, count}
 use Rattle.laws.specs.Lists.Same.{same-refl}
 use Rattle.laws.specs.Lists.Each.{all-each, every-agree}

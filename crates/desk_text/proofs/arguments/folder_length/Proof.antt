@@ -1,5 +1,5 @@
 -- The place found so far and the bytes ahead give what all bytes give.
-use Rattle.laws.specs.Kit.{needs, arith, _≡_, refl, _≤_, _-_, length, drop}
+use Rattle.laws.specs.Kit.{needs, _≡_, refl, _≤_, _-_, length, drop}
 use Rattle.desk_text.specs.Arguments.{behindLast, folderLength}
 use Rattle.desk_text.proofs.Laws.{last-turn, last-end}
 use Rattle.desk_text.proofs.arguments.folder_length.Statement.{statement}

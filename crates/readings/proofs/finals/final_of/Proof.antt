@@ -1,5 +1,5 @@
 -- The branches are the definition's.
-use Rattle.laws.specs.Kit.{_∙_, is-equal, is-other}
+use Rattle.laws.specs.Kit.{is-equal, is-other}
 use Rattle.paper.specs.Layout.{sameRule}
 use Rattle.paper.specs.Finals.{finalOf}
 use Rattle.readings.proofs.finals.final_of.Statement.{statement}

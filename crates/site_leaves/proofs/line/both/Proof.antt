@@ -1,5 +1,5 @@
 -- The code's `&` is the definition's.
-use Rattle.laws.specs.Kit.{needs, refl, _and_}
+use Rattle.laws.specs.Kit.{refl, _and_}
 use Rattle.site_leaves.proofs.line.both.Statement.{statement}
 use Rattle.site_leaves.proofs.line.both.Tie as tie
 
