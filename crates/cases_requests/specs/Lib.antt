@@ -2,4 +2,3 @@
 pub mod Characters
 pub mod Differing
 pub mod Conversion
-pub mod Finals

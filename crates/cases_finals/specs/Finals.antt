@@ -10,8 +10,7 @@ use Rattle.paper.specs.Sound.{sound}
 use Rattle.paper.specs.Opening.{Opening, namingNone, openNumber, openAnswer, opened}
 use Rattle.cases.specs.Case.{Case, _gives_, wrong, once, flag, finalValue, yes, no, kilowatts, refused}
 use Rattle.cases.specs.Opened.{paper}
-use Rattle.cases.specs.Examples.{area, receiver, seller, buyer, day, head, steady, butAt, sale, purchase, over, parametersBy, bookOf, late, after, examples}
-use Rattle.cases_requests.specs.Characters.{toldByOpening, third}
+use Rattle.cases.specs.Examples.{area, receiver, seller, buyer, nobody, day, head, steady, butAt, sale, purchase, over, parametersBy, bookOf, late, after, examples}
 
 -- ---- opening: the number, then bytes 6 and 7 of a buffer of some length
 
@@ -21,6 +20,10 @@ openedBy room o = once (λ buffer. openNumber buffer o ∷ part 6 2 (opened buff
 -- a byte that names no rule
 abbrev pub byte : ℕ → Rule
 byte b = record { 0 = b }
+
+-- the character that an opening by no rule names, by its area
+abbrev pub wrongCharacter : Bytes → List ℕ
+wrongCharacter area = (openAnswer (replicate 1024 7) (record { n = 96; lead = 45; rule = byte 2; day = day; area = area; receiver = receiver })) .character ∷ []
 
 unfoldable pub ofOpening : List Case
 ofOpening =
@@ -32,12 +35,12 @@ ofOpening =
     -- the length is judged first
     ∷ openedBy 1023 (parametersBy (byte 2) 45) gives (20 ∷ 7 ∷ 7 ∷ [])
     -- the character is that of a wrong code, whatever the rule
-    ∷ toldByOpening (openAnswer (replicate 1024 7) (parametersBy (byte 2) 45)) gives (21 ∷ 0 ∷ [])
-    ∷ toldByOpening (openAnswer (replicate 1024 7) (record { n = 96; lead = 45; rule = byte 2; day = day; area = third; receiver = receiver })) gives (21 ∷ 3 ∷ [])
+    ∷ wrongCharacter area gives (0 ∷ [])
+    ∷ wrongCharacter nobody gives (16 ∷ [])
     ∷ []
 
 pub openings : wrong ofOpening ≡ []
-unfolding paper examples third ofOpening
+unfolding paper examples ofOpening
 openings = refl
 
 -- ---- a sound book: a byte of the day block made another
