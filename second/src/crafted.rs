@@ -178,6 +178,39 @@ fn some_count(random: &mut Random, n: usize) -> usize {
     }
 }
 
+/// The same book with its used blocks in this order of their slots. Each series goes on naming its sender and its
+/// partner.
+pub fn reordered(book: &[u8], order: &[Slot]) -> Vec<u8> {
+    let mut new_slots = vec![0u16; order.len() + 1];
+    order.iter().zip(1..).for_each(|(old, new)| new_slots[usize::from(old.0)] = new);
+    let mut list: Vec<Block> = blocks(book).copied().collect();
+    for (old, place) in order.iter().zip(1..) {
+        let mut block = *block_at(book, usize::from(old.0));
+        if block[KIND] == KIND_SERIES {
+            for at in [SENDER_SLOT, PARTNER] {
+                let named = usize::from(u16_at(&block, at));
+                put_u16(&mut block, at, new_slots[named]);
+            }
+        }
+        list[place] = block;
+    }
+    sealed(list)
+}
+
+/// The same book, the marks of a sender's series naming any series as partners.
+pub fn with_false_partners(random: &mut Random, book: &[u8], sender: &Field) -> Vec<u8> {
+    let mut list: Vec<Block> = blocks(book).copied().collect();
+    let series = slots_of(&list, KIND_SERIES);
+    let heads = slots_of(&list, KIND_SENDER);
+    let owner = heads.into_iter().find(|&slot| field(&list[slot], SENDER) == *sender);
+    for &slot in &series {
+        if owner == Some(usize::from(u16_at(&list[slot], SENDER_SLOT))) {
+            put_u16(&mut list[slot], PARTNER, random.pick(&series) as u16);
+        }
+    }
+    sealed(list)
+}
+
 /// The same book with a sender's kept version set: its next filings reach the highest version soon.
 /// Nothing if the book has no sender.
 pub fn with_version(book: &[u8], version: u16) -> Option<(Field, Vec<u8>)> {
@@ -264,8 +297,30 @@ mod tests {
                     assert!(is_sound(&false_book));
                 }
             }
-            let (_, late) = with_version(&book, HIGHEST_VERSION).expect("there is a sender");
+            let (sender, late) = with_version(&book, HIGHEST_VERSION).expect("there is a sender");
             assert!(is_sound(&late));
+            assert!(is_sound(&with_false_partners(&mut random, &book, &sender)));
+        }
+    }
+
+    #[test]
+    fn a_reordered_book_is_the_same_but_for_its_slots() {
+        let mut random = Random::new(8);
+        let pool: Vec<Field> = (0..20).map(|_| names::valid_eic(&mut random)).collect();
+        for free_slots in [0, 3] {
+            let shape = Shape { senders: 3, fewest_series: 1, most_series: 5, free_slots };
+            let book = sound_book(&mut random, &pool, &shape);
+            let used = blocks(&book).skip(1).filter(|block| block[KIND] != 0).count() as u16;
+            let mut order: Vec<Slot> = (1..=used).map(Slot).collect();
+            assert!(reordered(&book, &order) == book);
+            random.shuffle(&mut order);
+            let other = reordered(&book, &order);
+            assert!(is_sound(&other));
+            let back: Vec<Slot> = (1..=used)
+                .map(|slot| order.iter().position(|old| old.0 == slot).expect("each once") as u16 + 1)
+                .map(Slot)
+                .collect();
+            assert!(reordered(&other, &back) == book);
         }
     }
 }

@@ -26,7 +26,7 @@ pub enum Reply {
     Open { number: u8, character: u8 },
     OpenBy { number: u8, character: u8 },
     Clock { number: u8, state: DayState },
-    Submit(Verdict),
+    Submit { verdict: Verdict, looked: usize },
     Mark { number: u8, mark: Mark },
     Block { number: u8, block: Vec<u8> },
     Final { number: u8, value: u32 },
@@ -92,7 +92,10 @@ impl Desk {
                 let (number, state) = day::move_clock(&mut self.book, Minute(*minute));
                 Reply::Clock { number, state }
             }
-            Record::Submit(message) => Reply::Submit(submit(&mut self.book, message)),
+            Record::Submit(message) => {
+                let (verdict, looked) = submit(&mut self.book, message);
+                Reply::Submit { verdict, looked }
+            }
             Record::Mark { sender, id } => {
                 let (number, mark) = readings::mark_of(&self.book, sender, id);
                 Reply::Mark { number, mark }
@@ -167,7 +170,7 @@ impl Desk {
             Reply::Clock { number, state } => {
                 writeln!(out, "clock {number} {} {} {}", state.n, state.lead, state.clock.0)
             }
-            Reply::Submit(verdict) => write_verdict(out, "submit", verdict),
+            Reply::Submit { verdict, looked } => writeln!(out, "submit {} {looked}", numbers_of(verdict)),
             Reply::Mark { number, mark } => {
                 writeln!(out, "mark {number} {} {} {}", mark.differ, mark.first.0, mark.partner.0)
             }
@@ -185,15 +188,16 @@ impl Desk {
             Reply::Check { value, right } => writeln!(out, "check {value} {}", u8::from(*right)),
             Reply::Seal(block) => with_hex(out, format_args!("seal"), block),
             Reply::Code(code) => writeln!(out, "code {code}"),
-            Reply::Judge(verdict) => write_verdict(out, "judge", verdict),
+            Reply::Judge(verdict) => writeln!(out, "judge {}", numbers_of(verdict)),
             Reply::Convert(number) => writeln!(out, "convert {number}"),
         }
     }
 }
 
-fn write_verdict(out: &mut impl Write, word: &str, verdict: &Verdict) -> io::Result<()> {
+/// The five numbers of a verdict.
+fn numbers_of(verdict: &Verdict) -> String {
     let (number, code) = (verdict.number(), verdict.code());
-    writeln!(out, "{word} {number} {code} {} {} {}", verdict.series, verdict.position.0, verdict.character)
+    format!("{number} {code} {} {} {}", verdict.series, verdict.position.0, verdict.character)
 }
 
 /// A line whose last word is hex; the word is left out when there are no bytes.
@@ -240,7 +244,7 @@ mod tests {
         assert_eq!(line(&mut desk, Record::Length(2)), "length 2\n");
         assert_eq!(line(&mut desk, Record::Book), "book 2\n0000\n");
         assert_eq!(line(&mut desk, Record::Clock(5)), "clock 1 0 0 0\n");
-        assert_eq!(line(&mut desk, Record::Submit(vec![])), "submit 1 0 0 0 0\n");
+        assert_eq!(line(&mut desk, Record::Submit(vec![])), "submit 1 0 0 0 0 0\n");
         assert_eq!(line(&mut desk, Record::Judge(vec![])), "judge 1 0 0 0 0\n");
         assert_eq!(line(&mut desk, Record::Convert), "convert 1\n");
         assert_eq!(line(&mut desk, Record::Mark { sender: vec![], id: vec![] }), "mark 1 0 0 0\n");
@@ -262,7 +266,7 @@ mod tests {
         assert_eq!(line(&mut desk, Record::Open(opening(area, b"14XAT_APCS-----Q"))), "open 21 6\n");
         assert_eq!(line(&mut desk, Record::Open(opening(area, receiver))), "open 0 0\n");
         assert_eq!(line(&mut desk, Record::Clock(5)), "clock 0 96 45 5\n");
-        assert_eq!(line(&mut desk, Record::Submit(vec![])), "submit 2 0 0 0 0\n");
+        assert_eq!(line(&mut desk, Record::Submit(vec![])), "submit 2 0 0 0 0 0\n");
         assert_eq!(line(&mut desk, Record::Judge(vec![])), "judge 2 0 0 0 0\n");
         assert_eq!(line(&mut desk, Record::Eic(b"10YAT-APG------L".to_vec())), "eic 0\n");
         assert_eq!(line(&mut desk, Record::Eic(b"10YAT-APG".to_vec())), "eic 10\n");

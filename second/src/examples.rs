@@ -7,15 +7,21 @@ use crate::block::*;
 use crate::codes::reason_code;
 use crate::conversion::convert;
 use crate::counts::{Minute, Position, Slot, DAY_START};
+use crate::crafted::reordered;
 use crate::day::{move_clock, open, open_by, DayState};
+use crate::desk::Desk;
 use crate::identifier::{is_valid_eic, wrong_character, VALUES as CHARACTER_VALUES};
 use crate::listing::listing;
+use crate::looks::search;
 use crate::message::{series_of_message, SeriesReader};
+use crate::names::valid_eic;
 use crate::plain_rule;
 use crate::quantity_text;
+use crate::random::Random;
 use crate::readings::{accepted_block, final_value, mark_of, plain_run};
 use crate::sound::{is_sound, MOST_BLOCKS};
-use crate::submission::{judge, submit, Verdict};
+use crate::stream::Record;
+use crate::submission::{self, judge, Verdict};
 
 pub type Outcome = Result<(), String>;
 
@@ -55,6 +61,12 @@ pub const EXAMPLES: &[Example] = &[
     ("the rule stays", rule_stays),
     ("finals by both rules", finals_by_both_rules),
     ("a late counterpart", late_counterparts),
+    ("looks of a first sender and of others", looks_of_senders),
+    ("looks of a renewed message", looks_of_renewals),
+    ("looks of a refusal", looks_of_refusals),
+    ("looks in the answer line", looks_in_lines),
+    ("partners at both ends of a book", partners_at_both_ends),
+    ("partners in a full book", partners_in_full_book),
 ];
 
 fn same<T: PartialEq + Debug>(what: &str, found: T, expected: T) -> Outcome {
@@ -69,6 +81,7 @@ const AREA_CODE: &[u8; 16] = b"10YAT-APG------L";
 const RECEIVER_CODE: &[u8; 16] = b"14XAT-APCS-----Q";
 const SELLER: &[u8; 16] = b"14XBILANZGR-1--F";
 const BUYER: &[u8; 16] = b"14XBG-EMPFANG--0";
+const OTHER: &[u8; 16] = b"13XBILANZGR-2--Q";
 const DAY_TEXT: &[u8; 8] = b"20190131";
 
 fn name(text: &str) -> Field {
@@ -126,6 +139,11 @@ fn opened_by(rule: u8) -> Vec<u8> {
     book
 }
 
+/// Enters a message. What is told but for the looks, which have examples of their own.
+fn submit(book: &mut [u8], message: &[u8]) -> Verdict {
+    submission::submit(book, message).0
+}
+
 /// Number, code, series number and position.
 fn answer(verdict: Verdict) -> (u8, u8, u16, u16) {
     (verdict.number(), verdict.code(), verdict.series, verdict.position.0)
@@ -141,7 +159,7 @@ fn eics() -> Outcome {
         (RECEIVER_CODE, 2_749),
         (BUYER, 2_331),
         (SELLER, 2_353),
-        (b"13XBILANZGR-2--Q", 2_342),
+        (OTHER, 2_342),
     ];
     for (code, expected) in sums {
         let text = String::from_utf8_lossy(code);
@@ -546,7 +564,6 @@ fn wrong_characters_in_submission() -> Outcome {
         (verdict.number(), verdict.series, verdict.character)
     };
     let (third, sixteenth) = (b"14xBILANZGR-1--F", b"14XBG-EMPFANG--1");
-    let other = b"13XBILANZGR-2--Q";
     same("a good message", told(SELLER, BUYER, SELLER), (0, 0, 0))?;
     same("the sender", told(third, BUYER, SELLER), (4, 0, 3))?;
     same("the sender before the parties", told(third, sixteenth, third), (4, 0, 3))?;
@@ -555,7 +572,7 @@ fn wrong_characters_in_submission() -> Outcome {
     same("both, the in party first", told(SELLER, sixteenth, third), (8, 1, 16))?;
     same("one wrong code twice", told(SELLER, third, third), (8, 1, 3))?;
     same("parties equal", told(SELLER, SELLER, SELLER), (8, 1, 0))?;
-    same("neither the sender", told(SELLER, BUYER, other), (8, 1, 0))?;
+    same("neither the sender", told(SELLER, BUYER, OTHER), (8, 1, 0))?;
     let mut foreign = series("A", BUYER, SELLER, 1, 96, 1);
     put_field(&mut foreign, IN_AREA, third);
     let verdict = judge(&book, &message(SELLER, 1, 96, &[foreign]));
@@ -802,6 +819,153 @@ fn late_counterparts() -> Outcome {
         }
     }
     Ok(())
+}
+
+/// Number and looks of a submission.
+fn looked(book: &mut [u8], message: &[u8]) -> (u8, usize) {
+    let (verdict, looked) = submission::submit(book, message);
+    (verdict.number(), looked)
+}
+
+/// The slot that a series' mark names.
+fn partner(book: &[u8], sender: &Field, id: &str) -> (u8, u16) {
+    let (number, mark) = mark_of(book, sender, &name(id));
+    (number, mark.partner.0)
+}
+
+/// What the looks find in a book for this message, and how many there are.
+fn found(book: &[u8], message: &[u8], sender: u16) -> (Vec<u16>, usize) {
+    let search = search(book, message, Slot(sender));
+    (search.partners.iter().map(|partner| partner.map_or(0, |slot| slot.0)).collect(), search.looked)
+}
+
+/// Document 02, C-23: the seller's message, of three series, in slots 1 to 4.
+fn sold_to_two() -> Vec<u8> {
+    let list = [
+        series("A", BUYER, SELLER, 1, 96, 1),
+        series("B", SELLER, BUYER, 1, 96, 2),
+        series("C", OTHER, SELLER, 1, 96, 3),
+    ];
+    message(SELLER, 1, 96, &list)
+}
+
+fn looks_of_senders() -> Outcome {
+    let mut book = opened(12, 96, 45);
+    same("the first sender, its block and 3 series", looked(&mut book, &sold_to_two()), (0, 4))?;
+    same("nothing but its own", found(&book, &sold_to_two(), 1), (vec![0, 0, 0], 4))?;
+    // The second sender takes slots 5 and 6.
+    let bought = message(BUYER, 1, 96, &[series("A", BUYER, SELLER, 1, 96, 1)]);
+    same("the second sender", looked(&mut book, &bought), (0, 6))?;
+    same("its partner", partner(&book, BUYER, "A"), (0, 2))?;
+    same("its partner's partner", partner(&book, SELLER, "A"), (0, 6))?;
+    same("the pair turned round", partner(&book, SELLER, "B"), (0, 0))?;
+    // The third takes 7 to 9, and answers one trade of the first.
+    let list = [series("X", OTHER, BUYER, 1, 96, 1), series("Y", OTHER, SELLER, 1, 96, 3)];
+    let third = message(OTHER, 1, 96, &list);
+    same("the third sender", looked(&mut book, &third), (0, 9))?;
+    same("its partners", found(&book, &third, 7), (vec![0, 4], 9))?;
+    same("partners of two senders", found(&book, &sold_to_two(), 1), (vec![6, 0, 9], 9))?;
+    same("the plain run", plain_run(&book), (0, true))
+}
+
+fn looks_of_renewals() -> Outcome {
+    let mut book = book_of_two(96, &[(2, 44_000)])?;
+    let kept = series("FPL01", BUYER, SELLER, 1, 96, 45_000);
+    let agreeing = series("FPL01", BUYER, SELLER, 2, 96, 45_000);
+    same("a changed series", looked(&mut book, &message(BUYER, 2, 96, &[agreeing])), (0, 4))?;
+    same("nothing changed", looked(&mut book, &message(BUYER, 3, 96, &[agreeing])), (0, 4))?;
+    same("its partner", partner(&book, BUYER, "FPL01"), (0, 2))?;
+    let new = series("FPL02", SELLER, BUYER, 4, 96, 1);
+    same("a series more", looked(&mut book, &message(BUYER, 4, 96, &[agreeing, new])), (0, 5))?;
+    same("the version was 2", looked(&mut book, &message(BUYER, 5, 96, &[kept, new])), (15, 0))?;
+    let answer = [series("TS0002", SELLER, BUYER, 2, 96, 1), series("TS0001", BUYER, SELLER, 1, 96, 45_000)];
+    same("the seller answers", looked(&mut book, &message(SELLER, 2, 96, &answer)), (0, 6))?;
+    same("in the message's order", found(&book, &message(SELLER, 2, 96, &answer), 1), (vec![5, 4], 6))
+}
+
+fn looks_of_refusals() -> Outcome {
+    let book = book_of_two(96, &[])?;
+    let good = message(BUYER, 2, 96, &[series("FPL01", BUYER, SELLER, 1, 96, 45_000)]);
+    same("accepted", looked(&mut book.clone(), &good), (0, 4))?;
+    let mut damaged = book.clone();
+    damaged[9] ^= 1;
+    same("not sound", looked(&mut damaged, &good), (1, 0))?;
+    same("no message", looked(&mut book.clone(), &[]), (2, 0))?;
+    let stale = message(BUYER, 1, 96, &[series("FPL01", BUYER, SELLER, 1, 96, 45_000)]);
+    same("stale", looked(&mut book.clone(), &stale), (6, 0))?;
+    let absent = message(BUYER, 2, 96, &[series("FPL02", SELLER, BUYER, 2, 96, 1)]);
+    same("a series absent", looked(&mut book.clone(), &absent), (16, 0))?;
+    let four = ["A", "B", "C", "D"].map(|id| series(id, &code_of(id), OTHER, 1, 96, 1));
+    same("no room", looked(&mut book.clone(), &message(OTHER, 1, 96, &four)), (17, 0))?;
+    same("just room enough", looked(&mut book.clone(), &message(OTHER, 1, 96, &four[..2])), (0, 7))
+}
+
+/// Some EIC for a party, another one for another name.
+fn code_of(name: &str) -> Field {
+    valid_eic(&mut Random::new(check_after(0, name.as_bytes()).into()))
+}
+
+/// A submission tells its looks, a judging has none.
+fn looks_in_lines() -> Outcome {
+    let mut desk = Desk::new();
+    let set = [Record::Length(10 * 512), Record::Bytes { offset: 0, bytes: opened(10, 96, 45) }];
+    let calls = [
+        (Record::Judge(sold_to_two()), "judge 0 1 0 0 0\n"),
+        (Record::Submit(sold_to_two()), "submit 0 1 0 0 0 4\n"),
+        (Record::Judge(sold_to_two()), "judge 6 51 0 0 0\n"),
+        (Record::Submit(sold_to_two()), "submit 6 51 0 0 0 0\n"),
+    ];
+    let mut line = |record: &Record| {
+        let mut text = Vec::new();
+        let reply = desk.answer(record).map_err(|_| "outside the buffer")?;
+        desk.write_line(&reply, &mut text).map_err(|error| error.to_string())?;
+        Ok::<String, String>(String::from_utf8_lossy(&text).into_owned())
+    };
+    set.iter().try_for_each(|record| line(record).map(|_| ()))?;
+    calls.iter().try_for_each(|(record, expected)| same("the line", line(record)?.as_str(), *expected))
+}
+
+/// A series may stand before its sender, even in slot 1.
+fn partners_at_both_ends() -> Outcome {
+    let book = book_of_two(96, &[])?;
+    let mut other = reordered(&book, &[Slot(2), Slot(1), Slot(3), Slot(4)]);
+    same("soundness", is_sound(&other), true)?;
+    let bought = message(BUYER, 2, 96, &[series("FPL01", BUYER, SELLER, 2, 96, 1)]);
+    same("the buyer", looked(&mut other, &bought), (0, 4))?;
+    same("its partner in the first slot", partner(&other, BUYER, "FPL01"), (0, 1))?;
+    let sold = message(SELLER, 2, 96, &[series("TS0001", BUYER, SELLER, 2, 96, 1)]);
+    same("the seller", looked(&mut other, &sold), (0, 4))?;
+    same("its partner in the last slot", partner(&other, SELLER, "TS0001"), (0, 4))?;
+    same("the plain run", plain_run(&other), (0, true))
+}
+
+/// The seller's series stands in slot 2; other senders fill the slots up to 995; the other's stands in slot 997.
+fn partners_in_full_book() -> Outcome {
+    let mut book = opened(MOST_BLOCKS, 96, 45);
+    let sold = |version| message(SELLER, version, 96, &[series("S", BUYER, SELLER, version, 96, version.into())]);
+    same("the seller", looked(&mut book, &sold(1)), (0, 2))?;
+    let mut used = 2;
+    for (number, count) in [200, 200, 200, 200, 188].into_iter().enumerate() {
+        let sender = code_of(&format!("FILLER{number}"));
+        let filed = |place: usize| series(&format!("F{place}"), &code_of(&format!("P{place}")), &sender, 1, 96, 1);
+        let list: Vec<Block> = (0..count).map(filed).collect();
+        used += 1 + count;
+        same("a sender between", looked(&mut book, &message(&sender, 1, 96, &list)), (0, used))?;
+    }
+    let high = |version| message(OTHER, version, 96, &[series("H", OTHER, BUYER, version, 96, version.into())]);
+    same("the other", looked(&mut book, &high(1)), (0, 997))?;
+    let answers = [series("L", BUYER, SELLER, 1, 96, 1), series("H", OTHER, BUYER, 1, 96, 1)];
+    same("the buyer", looked(&mut book, &message(BUYER, 1, 96, &answers)), (0, 1_000))?;
+    same("its partner in a low slot", partner(&book, BUYER, "L"), (0, 2))?;
+    same("its partner in a high slot", partner(&book, BUYER, "H"), (0, 997))?;
+    same("the seller's mark", partner(&book, SELLER, "S"), (0, 999))?;
+    same("the other's mark", partner(&book, OTHER, "H"), (0, 1_000))?;
+    same("the seller again", looked(&mut book, &sold(2)), (0, 1_000))?;
+    same("the other again", looked(&mut book, &high(2)), (0, 1_000))?;
+    let late = code_of("LATE");
+    let no_room = message(&late, 1, 96, &[series("A", BUYER, &late, 1, 96, 1)]);
+    same("no room for one more", looked(&mut book, &no_room), (17, 0))?;
+    same("the plain run", plain_run(&book), (0, true))
 }
 
 #[cfg(test)]

@@ -27,10 +27,12 @@ mod calls;
 mod conversions;
 mod episodes;
 mod finals;
+mod looks;
 mod messages;
 
 use conversions::{ConversionTurn, Use};
 use episodes::{OpeningInVain, WrongRule};
+use looks::PartnersAt;
 
 /// What is known of the book on which a call is made.
 #[derive(Clone, Copy, Debug, PartialEq, Eq)]
@@ -204,6 +206,8 @@ pub struct Generator {
     /// Who filed what of a trade whose final is asked for, and which side files too late: for each rule.
     final_cases: [Deck<FinalCase>; 2],
     late_sides: [Deck<Side>; 2],
+    /// Where partners are to stand in a book.
+    partners_at: Deck<PartnersAt>,
     wrong_texts: Deck<u8>,
     versions: Deck<VersionTurn>,
     conversions: Deck<ConversionTurn>,
@@ -272,6 +276,7 @@ impl Generator {
             rules: Deck::of(&RULES),
             final_cases: [SELLERS_RULE, LESSER_RULE].map(|_| Deck::of(FinalCase::ALL)),
             late_sides: [SELLERS_RULE, LESSER_RULE].map(|_| Deck::of(&[Side::Buys, Side::Sells])),
+            partners_at: Deck::of(PartnersAt::ALL),
             wrong_texts: Deck::of(&(1..=LAST_CHARACTER).collect::<Vec<u8>>()),
             versions: Deck::of(&VersionTurn::all()),
             conversions: Deck::of(&ConversionTurn::all()),
@@ -340,7 +345,7 @@ impl Generator {
     }
 
     fn action(&mut self, book: &[u8]) {
-        match self.random.weighted(&[66, 12, 7, 6, 8, 4, 8, 4, 4, 29, 6, 12, 36, 4, 19, 13, 11, 9, 4, 4, 8]) {
+        match self.random.weighted(&[66, 12, 7, 6, 8, 4, 8, 4, 4, 29, 6, 12, 36, 4, 19, 13, 11, 9, 4, 4, 8, 4]) {
             0 => self.submission(book),
             1 => self.clock(book),
             2 => self.mark_or_block(book, true),
@@ -361,7 +366,8 @@ impl Generator {
             17 => self.differences(book),
             18 => self.false_book(book),
             19 => self.finals(book),
-            _ => self.late_counterpart(book),
+            20 => self.late_counterpart(book),
+            _ => self.looks(book),
         }
     }
 

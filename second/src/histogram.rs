@@ -142,7 +142,7 @@ impl Histogram {
             Reply::Open { number, character } => self.opening("open", *number, *character, book),
             Reply::OpenBy { number, character } => self.opening("open_by", *number, *character, book),
             Reply::Clock { number, .. } => self.answer("clock", *number, book),
-            Reply::Submit(verdict) => {
+            Reply::Submit { verdict, .. } => {
                 self.verdict("submit", verdict, book);
                 if let Record::Submit(submitted) = record {
                     self.version(0, verdict, submitted, before);
@@ -190,8 +190,8 @@ impl Histogram {
         on_new.filter(|_| new).into_iter().for_each(|sight| self.saw(sight));
         self.past = match (reply, self.past) {
             (_, _) if sets_book(reply) => Past::NotConverted,
-            (Reply::Submit(verdict), _) if verdict.broken.is_none() && old => Past::UsedBefore,
-            (Reply::Submit(verdict), _) if verdict.broken.is_none() => Past::NotConverted,
+            (Reply::Submit { verdict, .. }, _) if verdict.broken.is_none() && old => Past::UsedBefore,
+            (Reply::Submit { verdict, .. }, _) if verdict.broken.is_none() => Past::NotConverted,
             (_, Past::JustConverted) if record.is_call() => Past::Converted,
             (_, past) => past,
         };
@@ -362,7 +362,7 @@ fn use_of(reply: &Reply, changed: bool, book: &[u8]) -> (Option<Sight>, Option<S
     use Sight::*;
     let both = |on_old, on_new| (Some(on_old), Some(on_new));
     match reply {
-        Reply::Submit(verdict) if verdict.broken.is_none() => both(OldAccepted, NewAccepted),
+        Reply::Submit { verdict, .. } if verdict.broken.is_none() => both(OldAccepted, NewAccepted),
         Reply::Judge(verdict) if verdict.broken.is_none() => both(OldJudged, NewJudged),
         Reply::Mark { number: 0, .. } => both(OldMark, NewMark),
         Reply::Block { number: 0, .. } => both(OldBlock, NewBlock),

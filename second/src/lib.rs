@@ -2,8 +2,8 @@
 //! can be compared with those of the proved program.
 //!
 //! The first group of modules is the paper: blocks, EICs and ids, quantity text, sound books,
-//! opening and clock, messages, submission, readings, conversion, listing. `plain_rule` is the matching rule
-//! for checking. The rest makes random calls, replays them and counts what decided.
+//! opening and clock, messages, submission and its looks, readings, conversion, listing. `plain_rule` is the
+//! matching rule for checking. The rest makes random calls, replays them and counts what decided.
 
 pub mod block;
 pub mod book;
@@ -14,6 +14,7 @@ pub mod counts;
 pub mod day;
 pub mod identifier;
 pub mod listing;
+pub mod looks;
 pub mod message;
 pub mod plain_rule;
 pub mod quantity_text;

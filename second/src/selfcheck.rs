@@ -1,4 +1,4 @@
-//! The self-check: the worked examples, then random calls with demand 3 held against the plain
+//! The self-check: the worked examples, then random calls with demand 3 and the looks held against the plain
 //! rule after every acceptance, and each wrong character and rule 6 against a reckoning of its own.
 
 use std::collections::HashMap;
@@ -11,8 +11,9 @@ use crate::examples::EXAMPLES;
 use crate::generator::Generator;
 use crate::histogram::Histogram;
 use crate::identifier::is_well_formed_id;
+use crate::looks::search;
 use crate::plain_rule::{self, Matching, PlainMark};
-use crate::readings::{final_in, plain_run};
+use crate::readings::{final_in, plain_marks, plain_run};
 use crate::sound::is_sound;
 use crate::stream::Record;
 use crate::submission::submit;
@@ -51,8 +52,8 @@ impl Ledger {
         if character_told(reply) != character_due(record, reply) {
             return Err("another character is told than the wrong one".into());
         }
-        if let (Record::Submit(message), Reply::Submit(verdict)) | (Record::Judge(message), Reply::Judge(verdict)) =
-            (record, reply)
+        if let (Record::Submit(message), Reply::Submit { verdict, .. })
+        | (Record::Judge(message), Reply::Judge(verdict)) = (record, reply)
         {
             // What comes before rule 6 says nothing about it.
             let passed = verdict.number() == 0 || verdict.number() > 6;
@@ -68,10 +69,13 @@ impl Ledger {
         let refused = match reply {
             Reply::Open { number, .. } | Reply::OpenBy { number, .. } => *number != 0,
             Reply::Clock { number, .. } | Reply::Convert(number) => *number != 0,
-            Reply::Submit(verdict) => verdict.broken.is_some(),
+            Reply::Submit { verdict, .. } => verdict.broken.is_some(),
             _ => false,
         };
         if refused {
+            if let Reply::Submit { looked: 1.., .. } = reply {
+                return Err("a refusal reports looks".into());
+            }
             return if before == after { Ok(()) } else { Err("a refused call changed the book".into()) };
         }
         match (record, reply) {
@@ -84,8 +88,9 @@ impl Ledger {
                     self.verify(after)?;
                 }
             }
-            (Record::Submit(message), _) => {
+            (Record::Submit(message), Reply::Submit { looked, .. }) => {
                 written_only_where_allowed(message, before, after)?;
+                looked_where_due(message, *looked, after)?;
                 series_versions_follow(message, before)?;
                 if before == self.legal.book {
                     self.legal.book = after.to_vec();
@@ -109,7 +114,7 @@ impl Ledger {
                     return Err("the plain run denies a converted book".into());
                 }
             }
-            (Record::Judge(message), Reply::Judge(verdict)) if submit(&mut after.to_vec(), message) != *verdict => {
+            (Record::Judge(message), Reply::Judge(verdict)) if submit(&mut after.to_vec(), message).0 != *verdict => {
                 return Err("a message is not judged as it would be answered".into());
             }
             (Record::Final { out_party, in_party, position }, Reply::Final { number: number @ (0 | 26), value })
@@ -187,7 +192,7 @@ impl Ledger {
 fn character_told(reply: &Reply) -> u8 {
     match reply {
         Reply::Open { character, .. } | Reply::OpenBy { character, .. } | Reply::Eic(character) => *character,
-        Reply::Submit(verdict) | Reply::Judge(verdict) => verdict.character,
+        Reply::Submit { verdict, .. } | Reply::Judge(verdict) => verdict.character,
         _ => 0,
     }
 }
@@ -199,7 +204,7 @@ fn character_due(record: &Record, reply: &Reply) -> u8 {
         (Record::Eic(text), _) => vec![text],
         (Record::Open(opening), Reply::Open { number: 21, .. })
         | (Record::OpenBy { opening, .. }, Reply::OpenBy { number: 21, .. }) => vec![&opening.area, &opening.receiver],
-        (Record::Submit(message), Reply::Submit(verdict)) | (Record::Judge(message), Reply::Judge(verdict)) => {
+        (Record::Submit(message), Reply::Submit { verdict, .. }) | (Record::Judge(message), Reply::Judge(verdict)) => {
             let series = usize::from(verdict.series) * BLOCK_BYTES;
             match verdict.number() {
                 4 => vec![&message[SENDER..SENDER + 16]],
@@ -382,6 +387,32 @@ fn sender_side_is_true(book: &SoundBook, slot: Slot) -> Result<(), String> {
     }
     if !nets(book.block(slot)).map(i64::from).eq(sums) {
         return Err("the sender's nets are wrong".into());
+    }
+    Ok(())
+}
+
+/// After an acceptance, on any book: the looks stay below their ceiling and there is one for each used slot, and
+/// what they find are the partners that the plain rule has and the marks name.
+fn looked_where_due(message: &[u8], looked: usize, after: &[u8]) -> Result<(), String> {
+    let book = SoundBook::of(after).ok_or("an acceptance left the book unsound")?;
+    let used = blocks(after).skip(1).filter(|block| !is_free(block)).count();
+    let series = blocks(message).len() - 1;
+    if looked > used + series {
+        return Err("more looks than used slots and series".into());
+    }
+    let sender = field(block_at(message, 0), SENDER);
+    let slot = book.sender_slot(&sender).ok_or("the sender has no slot")?;
+    let found = search(after, message, slot);
+    if looked != used || looked != found.looked {
+        return Err("the looks are not one for each used slot".into());
+    }
+    let plain: HashMap<Slot, Mark> = plain_marks(&book).into_iter().collect();
+    for (series, partner) in blocks(message).skip(1).zip(found.partners) {
+        let (slot, kept) = book.find_series(&sender, &field(series, ID)).ok_or("a series was not entered")?;
+        let partner = partner.unwrap_or(Slot(0));
+        if plain[&slot].partner != partner || mark(kept).partner != partner {
+            return Err("the looks find another partner than the plain rule and the mark have".into());
+        }
     }
     Ok(())
 }

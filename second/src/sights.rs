@@ -14,6 +14,7 @@ use crate::stream::Record;
 use crate::submission::{judge, Broken, Verdict};
 use crate::versions::{kept_sender, kept_version};
 
+mod looks;
 pub mod marks;
 mod openings;
 pub mod rules;
@@ -32,6 +33,27 @@ cases! {
         Series100To199 "accepted, 100 to 199 series",
         Series200 "accepted, 200 series",
         AllBlocksUsed "accepted, all 1,001 blocks used",
+        LooksFirstSender "accepted, the book's first sender",
+        LooksSecondSender "accepted, a new sender, a partner is there",
+        LooksRenewed "accepted, a partner, no slot more is used",
+        LooksGrown "accepted, a partner, a known sender's new series",
+        LooksInVain "accepted, no partner among others' series",
+        LooksOnePartner "accepted, just one partner",
+        LooksSeveralSenders "accepted, partners of several senders",
+        LooksSeveralOfOne "accepted, several partners of one sender",
+        LooksSomeAlone "accepted, a partner, and a series alone",
+        LooksNoneAlone "accepted, several series, each with a partner",
+        LooksSlot1 "accepted, a partner in slot 1",
+        LooksSlot2 "accepted, a partner in slot 2",
+        LooksLastSlot "accepted, a partner in the last used slot",
+        LooksBothEnds "accepted, a partner in slot 1 or 2 and one in the last used slot",
+        LooksBelow "accepted, a partner below its series",
+        LooksAbove "accepted, a partner above its series",
+        LooksTurned "accepted, a series alone, another's has its parties exchanged",
+        LooksKeptFalse "accepted, a partner, the mark kept before named another series",
+        LooksHighSlot "accepted, a partner in a slot above 255",
+        LooksLowByte "accepted, a partner, its sender's slot and the sender's have one low byte",
+        Looks256To999 "accepted, 256 to 999 looks",
         NetHighest "accepted, a net at its upper limit",
         NetNextToHighest "accepted, a net one below its upper limit",
         NetLowest "accepted, a net at its lower limit",
@@ -179,9 +201,9 @@ cases! {
 /// What one call shows, with the book before it and after it; a refusal has left it alone.
 pub fn sights(record: &Record, reply: &Reply, before: &[u8], book: &[u8]) -> Vec<Sight> {
     match (record, reply) {
-        (Record::Submit(message), Reply::Submit(verdict)) => {
+        (Record::Submit(message), Reply::Submit { verdict, looked }) => {
             let of_verdict = match verdict.broken {
-                None => acceptance(message, book),
+                None => [acceptance(message, book), looks::looks(message, *looked, before, book)].concat(),
                 Some(broken) => [refusal(message, verdict, broken, book), codes_of_refusal(message, verdict)].concat(),
             };
             [of_verdict, versions(message, verdict, before)].concat()

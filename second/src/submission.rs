@@ -11,6 +11,7 @@ use crate::clause::clauses;
 use crate::codes::reason_code;
 use crate::counts::{Position, Slot};
 use crate::identifier::{is_well_formed_id, wrong_character};
+use crate::looks::search;
 use crate::message;
 
 clauses! {
@@ -81,8 +82,8 @@ impl Broken {
     }
 }
 
-/// The answer to a submission. Series number, position and wrong character are 0 where the rule gives
-/// none.
+/// The answer to a submission, but for its looks: past rule 1 they alone tell of other senders' blocks. Series
+/// number, position and wrong character are 0 where the rule gives none.
 #[derive(Clone, Copy, Debug, PartialEq, Eq)]
 pub struct Verdict {
     pub broken: Option<Broken>,
@@ -108,18 +109,16 @@ impl Verdict {
     }
 }
 
-/// Judges a message against a book and, if no rule is broken, enters it.
-pub fn submit(book: &mut [u8], message: &[u8]) -> Verdict {
+/// Judges a message against a book and, if no rule is broken, enters it. Tells also at how many slots the search
+/// for counterparts looked; after a refusal there is none.
+pub fn submit(book: &mut [u8], message: &[u8]) -> (Verdict, usize) {
     match plan_for(book, message) {
-        Err(refusal) => refusal,
-        Ok(plan) => {
-            enter(book, message, &plan);
-            Verdict::ACCEPTED
-        }
+        Err(refusal) => (refusal, 0),
+        Ok(plan) => (Verdict::ACCEPTED, enter(book, message, &plan)),
     }
 }
 
-/// What a submission would answer, the book left as it is.
+/// What a submission would answer, the book left as it is. Nothing is searched for.
 pub fn judge(book: &[u8], message: &[u8]) -> Verdict {
     plan_for(book, message).err().unwrap_or(Verdict::ACCEPTED)
 }
@@ -135,8 +134,6 @@ struct Place {
     slot: Slot,
     /// False for a stored series whose quantities stay: then only its mark may change.
     written: bool,
-    /// The slot of the other party's series with the same pair.
-    counterpart: Option<Slot>,
 }
 
 /// What the book holds of the sender.
@@ -183,7 +180,7 @@ fn plan_for(book: &[u8], message: &[u8]) -> Result<Plan, Verdict> {
     if new > book.free_slots() {
         return Err(Verdict::refused(Broken::NoRoom));
     }
-    Ok(plan(book, message, &stored, &places))
+    Ok(plan(book, &stored, &places))
 }
 
 fn stored_of<'book>(book: &SoundBook<'book>, sender: &Field) -> Stored<'book> {
@@ -353,60 +350,46 @@ fn judge_series_version(
     }
 }
 
-/// Gives every block its slot and every series its counterpart. Stored series keep their slots;
-/// new blocks take the lowest free ones, the sender's block before the series.
-fn plan(book: &SoundBook, message: &[u8], stored: &Stored, places: &[Option<(Slot, bool)>]) -> Plan {
+/// Gives every block its slot. Stored series keep theirs; new blocks take the lowest free ones, the sender's
+/// block before the series.
+fn plan(book: &SoundBook, stored: &Stored, places: &[Option<(Slot, bool)>]) -> Plan {
     let mut next_free = book.used_slots() as u16 + 1;
     let mut take_slot = || {
         next_free += 1;
         Slot(next_free - 1)
     };
     let sender = stored.slot.unwrap_or_else(&mut take_slot);
-
-    // A counterpart is a series of the other party, and that party stands in the pair: so among
-    // the series of others that name this sender the pair alone finds it.
-    let eic = field(block_at(message, 0), SENDER);
-    let mut counterparts: HashMap<(Field, Field), Slot> = HashMap::new();
-    for (slot, block) in book.series() {
-        let parties = pair(block);
-        let names_sender = parties.0 == eic || parties.1 == eic;
-        if names_sender && stored.slot != Some(Slot(u16_at(block, SENDER_SLOT))) {
-            counterparts.insert(parties, slot);
-        }
-    }
-    let series = blocks(message)
-        .skip(1)
-        .zip(places)
-        .map(|(block, place)| {
+    let series = places
+        .iter()
+        .map(|place| {
             let (slot, written) = place.unwrap_or_else(|| (take_slot(), true));
-            Place { slot, written, counterpart: counterparts.get(&pair(block)).copied() }
+            Place { slot, written }
         })
         .collect();
     Plan { n: book.n(), sender, series }
 }
 
-/// Writes an accepted message into the book.
-fn enter(book: &mut [u8], message: &[u8], plan: &Plan) {
+/// Writes an accepted message into the book, then puts the marks right. Gives the number of looks that finding
+/// the counterparts took.
+fn enter(book: &mut [u8], message: &[u8], plan: &Plan) -> usize {
+    put_head(book, message, plan.sender);
+    for (series, place) in blocks(message).skip(1).zip(&plan.series).filter(|(_, place)| place.written) {
+        let kept = block_at_mut(book, usize::from(place.slot.0));
+        *kept = *series;
+        put_u16(kept, SENDER_SLOT, plan.sender.0);
+    }
+    let found = search(book, message, plan.sender);
+    for (place, &partner) in plan.series.iter().zip(&found.partners) {
+        mark_both_sides(book, plan.n, place.slot, partner);
+    }
+    found.looked
+}
+
+/// Writes the sender block with its nets.
+fn put_head(book: &mut [u8], message: &[u8], slot: Slot) {
     let sender = field(block_at(message, 0), SENDER);
     let mut sums = [0i32; POSITIONS];
-    for (series, place) in blocks(message).skip(1).zip(&plan.series) {
-        // The mark of both sides: the series' own, and its counterpart's, which points back.
-        let mut own = Mark::ALONE;
-        if let Some(counterpart) = place.counterpart {
-            let other = block_at_mut(book, usize::from(counterpart.0));
-            own = Mark::between(series, other, plan.n, counterpart);
-            put_mark(other, Mark { partner: place.slot, ..own });
-            seal(other);
-        }
-
-        let kept = block_at_mut(book, usize::from(place.slot.0));
-        if place.written {
-            *kept = *series;
-            put_u16(kept, SENDER_SLOT, plan.sender.0);
-        }
-        put_mark(kept, own);
-        seal(kept);
-
+    for series in blocks(message).skip(1) {
         // Bought adds, sold takes away.
         let bought = field(series, IN_PARTY) == sender;
         for (sum, value) in sums.iter_mut().zip(quantities(series)) {
@@ -417,8 +400,27 @@ fn enter(book: &mut [u8], message: &[u8], plan: &Plan) {
             }
         }
     }
-    let head = block_at_mut(book, usize::from(plan.sender.0));
+    let head = block_at_mut(book, usize::from(slot.0));
     *head = *block_at(message, 0);
     put_nets(head, &sums);
     seal(head);
+}
+
+/// Puts right the mark of a placed series and, if it has a partner, the partner's. For that one nothing is searched:
+/// its partner is the placed series.
+fn mark_both_sides(book: &mut [u8], n: u8, slot: Slot, partner: Option<Slot>) {
+    let own = match partner {
+        None => Mark::ALONE,
+        Some(partner) => {
+            let series = *block_at(book, usize::from(slot.0));
+            let other = block_at_mut(book, usize::from(partner.0));
+            let own = Mark::between(&series, other, n, partner);
+            put_mark(other, Mark { partner: slot, ..own });
+            seal(other);
+            own
+        }
+    };
+    let kept = block_at_mut(book, usize::from(slot.0));
+    put_mark(kept, own);
+    seal(kept);
 }

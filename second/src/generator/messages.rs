@@ -156,6 +156,10 @@ impl Generator {
         let message = match self.episode {
             Episode::Limit(side) => self.message_at_limit(book, side),
             _ => {
+                if blocks(book).filter(|block| block[KIND] != 0).count() > 256 {
+                    // Few acceptances are in a book whose slots need two bytes.
+                    self.looks(book);
+                }
                 let random = &mut self.random;
                 let sender = random.pick(&self.partners);
                 let free = blocks(book).filter(|block| block[KIND] == 0).count();

@@ -11,7 +11,7 @@ use crate::stream::Record;
 pub fn rule_kept(reply: &Reply, book: &[u8]) -> Option<Sight> {
     let (by_sellers, by_lesser) = match reply {
         Reply::Clock { number: 0, .. } => (Sight::ClockSellers, Sight::ClockLesser),
-        Reply::Submit(verdict) if verdict.broken.is_none() => (Sight::AcceptedSellers, Sight::AcceptedLesser),
+        Reply::Submit { verdict, .. } if verdict.broken.is_none() => (Sight::AcceptedSellers, Sight::AcceptedLesser),
         Reply::Convert(0) => (Sight::ConvertedSellers, Sight::ConvertedLesser),
         _ => return None,
     };
