@@ -23,7 +23,7 @@ static size_t read_file(const char *name, uint8_t *into, size_t room) {
 
 static tetherbay_verdict call(const char *what, size_t length) {
     tetherbay_verdict v = {0};
-    if (!strcmp(what, "submit")) return tetherbay_submit(book, length, message, message_length);
+    if (!strcmp(what, "submit")) return tetherbay_submit(book, length, message, message_length).verdict;
     if (!strcmp(what, "sound")) v.number = tetherbay_sound(book, length);
     if (!strcmp(what, "convert")) v.number = tetherbay_convert(book, length);
     if (!strcmp(what, "checks")) v.number = tetherbay_checks_right(book, length);

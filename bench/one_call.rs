@@ -10,7 +10,7 @@ use second::submission::submit;
 fn call(what: &str, book: &mut [u8], message: &[u8]) -> (u32, usize, usize) {
     match what {
         "submit" => {
-            let v = submit(book, message);
+            let (v, _) = submit(book, message);
             (u32::from(v.number()), usize::from(v.series), usize::from(v.position.0))
         }
         "sound" => (u32::from(is_sound(book)), 0, 0),

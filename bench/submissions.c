@@ -1,5 +1,5 @@
-/* submissions CASE BOOK MESSAGE: writes the book and the message of a case to two files, for the programs that make the call. The sender is party 20.
-   No position of the day is closed. */
+/* submissions CASE BOOK MESSAGE [SERIES USED]: writes the book and the message of a case to two files, for the programs that make the call. The sender is
+   party 20. No position of the day is closed. The case "changed" takes the number of the sender's series and that of the used slots. */
 #include "full_book.h"
 
 enum { SENDERS = 20 };
@@ -26,16 +26,18 @@ static void make_message(unsigned series, unsigned version, uint32_t added) {
 }
 
 static void submit(void) {
-    if (tetherbay_submit(book, sizeof book, message, BLOCK * (many + 1)).number) exit(5);
+    if (tetherbay_submit(book, sizeof book, message, BLOCK * (many + 1)).verdict.number) exit(5);
 }
 
-/* 1,000 slots used: the sender has 200 series stored, and its message changes all of them. */
-static void all_changed(void) {
-    make_book(SENDERS, SLOTS - MOST_SERIES - 1);
-    make_message(MOST_SERIES, 1, 0);
+/* The sender has so many series stored among so many used slots, and its message changes all of them. */
+static void changed(unsigned series, unsigned slots) {
+    make_book(SENDERS, slots - series - 1);
+    make_message(series, 1, 0);
     submit();
-    make_message(MOST_SERIES, 2, 100);
+    make_message(series, 2, 100);
 }
+
+static void all_changed(void) { changed(MOST_SERIES, SLOTS); }
 
 static void one_into_empty(void) {
     make_book(0, 0);
@@ -88,14 +90,22 @@ static void write_file(const char *name, const uint8_t *bytes, size_t length) {
     if (!f || fwrite(bytes, 1, length, f) != length || fclose(f)) exit(6);
 }
 
+static int write_case(char **names) {
+    write_file(names[0], book, sizeof book);
+    write_file(names[1], message, BLOCK * (many + 1));
+    return 0;
+}
+
 int main(int argc, char **argv) {
+    if (argc == 6 && !strcmp(argv[1], "changed")) {
+        changed((unsigned)atoi(argv[4]), (unsigned)atoi(argv[5]));
+        return write_case(argv + 2);
+    }
     if (argc != 4) return 2;
     for (size_t i = 0; i < sizeof cases / sizeof *cases; i++) {
         if (strcmp(cases[i].name, argv[1])) continue;
         cases[i].make();
-        write_file(argv[2], book, sizeof book);
-        write_file(argv[3], message, BLOCK * (many + 1));
-        return 0;
+        return write_case(argv + 2);
     }
     return 2;
 }

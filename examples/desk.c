@@ -48,12 +48,13 @@ static void write_message(const char *sender, const char *message_id, const char
     for (unsigned p = 1; p <= N; p++) quantity(series, p, kilowatts);
 }
 
-/* Puts the checks right, hands the message in and prints the acknowledgement. */
+/* Puts the checks right, hands the message in and prints what the acknowledgement says, and at how many slots the search for counterparts looked. */
 static void submit(const char *who) {
     tetherbay_seal(message, BLOCK);
     tetherbay_seal(message + BLOCK, BLOCK);
-    tetherbay_verdict v = tetherbay_submit(book, sizeof book, message, sizeof message);
-    printf("%s: number %u, code A%02u, series %zu, position %zu, character %u\n", who, v.number, v.code, v.series, v.position, v.character);
+    tetherbay_submit_answer a = tetherbay_submit(book, sizeof book, message, sizeof message);
+    tetherbay_verdict v = a.verdict;
+    printf("%s: number %u, code A%02u, series %zu, position %zu, character %u; looked %zu\n", who, v.number, v.code, v.series, v.position, v.character, a.looked);
 }
 
 static void print_mark(const char *sender, const char *series_id) {

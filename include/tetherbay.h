@@ -144,8 +144,15 @@ typedef struct {
     uint8_t character;
 } tetherbay_verdict;
 
+/* The verdict, and how many slots the search for counterparts looked at. On 0 these are all used slots as they are after the call, each once, the sender's own and
+   the new ones among them: never more than the used slots and the series of the message together. On a refusal 0. */
+typedef struct {
+    tetherbay_verdict verdict;
+    size_t looked;
+} tetherbay_submit_answer;
+
 /* Judges a message and, on 0, enters it. Alters the book: sender block, series, marks of both sides, nets and checks. */
-tetherbay_verdict tetherbay_submit(uint8_t *book, size_t length, const uint8_t *message, size_t message_length);
+tetherbay_submit_answer tetherbay_submit(uint8_t *book, size_t length, const uint8_t *message, size_t message_length);
 
 /* The verdict that a submission would get now. The book is only read. */
 tetherbay_verdict tetherbay_judge(const uint8_t *book, size_t length, const uint8_t *message, size_t message_length);

@@ -150,11 +150,17 @@ static void verdict(const char *what, tetherbay_verdict v, tetherbay_verdict exp
     is_field(what, "character", v.character, expected.character);
 }
 
-/* Both calls answer so, and the next message is party 2's once more. */
+static void submitted(const char *what, tetherbay_verdict expected, size_t looked) {
+    tetherbay_submit_answer a = tetherbay_submit(book, sizeof book, message, sizeof message);
+    verdict(what, a.verdict, expected);
+    is_field(what, "looked", a.looked, looked);
+}
+
+/* Both calls answer so, without a look, and the next message is party 2's once more. */
 static void refused(const char *what, tetherbay_verdict expected) {
     seal_message();
     verdict(what, tetherbay_judge(book, sizeof book, message, sizeof message), expected);
-    verdict(what, tetherbay_submit(book, sizeof book, message, sizeof message), expected);
+    submitted(what, expected, 0);
     write_message(2, 1);
 }
 
@@ -190,7 +196,7 @@ static void mark(const char *what, unsigned party, const char *id, tetherbay_mar
 
 static void submissions(void) {
     write_message(1, 1);
-    verdict("submit", tetherbay_submit(book, sizeof book, message, sizeof message), (tetherbay_verdict){0, 1, 0, 0, 0});
+    submitted("submit", (tetherbay_verdict){0, 1, 0, 0, 0}, 3); /* its own three slots, into which it has just come */
     tetherbay_part p = tetherbay_series(message, sizeof message, 2);
     is("series, offset", p.offset, 2 * BLOCK);
     is("series, length", p.length, BLOCK);
@@ -202,7 +208,7 @@ static void submissions(void) {
     put(message + 2 * BLOCK + 108 + 4 * 98, 4, 0x80000000);
     refused("top bit", (tetherbay_verdict){11, 46, 2, 99, 0});
 
-    verdict("submit the other side", tetherbay_submit(book, sizeof book, message, sizeof message), (tetherbay_verdict){0, 1, 0, 0, 0});
+    submitted("submit the other side", (tetherbay_verdict){0, 1, 0, 0, 0}, 6);
     mark("mark agreeing", 2, "SERIES-0001", (tetherbay_mark_answer){0, 0, 0, 0, 2});
     mark("mark agreeing, the other side", 1, "SERIES-0001", (tetherbay_mark_answer){0, 0, 0, 0, 5});
 
@@ -210,7 +216,8 @@ static void submissions(void) {
     put(message + BLOCK + 108 + 4 * 97, 4, 7);
     put(message + BLOCK + 108 + 4 * 99, 4, 7);
     seal_message();
-    verdict("submit a change", tetherbay_submit(book, sizeof book, message, sizeof message), (tetherbay_verdict){0, 1, 0, 0, 0});
+    submitted("submit a change", (tetherbay_verdict){0, 1, 0, 0, 0}, 6); /* no slot more is used */
+    submitted("submit it again", (tetherbay_verdict){6, 51, 0, 0, 0}, 0);
 }
 
 /* Slots 1 to 6: party 1 and its two series, party 2 and its two. They differ at positions 98 and 100. */
@@ -286,6 +293,7 @@ int main(void) {
     put(book + 6, 2, TETHERBAY_LESSER | 1 << 8);
     tetherbay_seal(book, BLOCK);
     is("sound, a byte that must be 0", tetherbay_sound(book, sizeof book), false);
+    submitted("submit, 1", (tetherbay_verdict){1, 0, 0, 0, 0}, 0);
     is("plain run, 1", tetherbay_plain_run(book, sizeof book).number, 1);
     is("plain run, 1, holds", tetherbay_plain_run(book, sizeof book).holds, false);
     printf("%u answers asked for, %u wrong\n", asked, wrong);

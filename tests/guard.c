@@ -308,14 +308,21 @@ static void call_clock(void) {
 
 static uint32_t verdicts[18];
 
+static size_t used_slots(const uint8_t *b) {
+    size_t slot = 1;
+    while (BLOCK * slot < lent_length && b[BLOCK * slot]) slot++;
+    return slot - 1;
+}
+
 /* What an acceptance of the desk itself leaves is the desk from then on. */
 static void call_submit(void) {
     const uint8_t *m = lend_message();
     uint8_t *b = lend_book(&written_book);
     bool own = lent_length == desk_length && !memcmp(b, desk, desk_length);
-    tetherbay_verdict v = tetherbay_submit(b, lent_length, m, lent_message_length);
-    verdicts[v.number]++;
-    if (v.number || !own) return;
+    tetherbay_submit_answer a = tetherbay_submit(b, lent_length, m, lent_message_length);
+    verdicts[a.verdict.number]++;
+    if (a.looked != (a.verdict.number ? 0 : used_slots(b))) fail("looks other than one at each used slot, or on a refusal");
+    if (a.verdict.number || !own) return;
     memcpy(desk, b, desk_length);
     next_message();
 }

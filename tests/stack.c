@@ -71,7 +71,7 @@ static void call_sound(void) { answer = tetherbay_sound(book, sizeof book); }
 static void call_convert(void) { answer = tetherbay_convert(book, sizeof book); }
 static void call_clock(void) { answer = tetherbay_clock(book, sizeof book, 10080).number; }
 static void call_judge(void) { answer = tetherbay_judge(book, sizeof book, message, message_length).number; }
-static void call_submit(void) { answer = tetherbay_submit(book, sizeof book, message, message_length).number; }
+static void call_submit(void) { answer = tetherbay_submit(book, sizeof book, message, message_length).verdict.number; }
 static void call_mark(void) { answer = tetherbay_mark(book, sizeof book, party, 16, id, 16).number; }
 static void call_accepted_block(void) { answer = tetherbay_accepted_block(book, sizeof book, party, 16, id, 16).length; }
 static void call_final(void) { answer = tetherbay_final(book, sizeof book, other, 16, party, 16, 1).number; }
@@ -164,7 +164,7 @@ static void make_small_book(void) {
     if (tetherbay_open(small, sizeof small, N, 45, day(), 8, party, 16, other, 16).number) exit(5);
     memcpy(book, small, BLOCK);
     make_message(0, SMALL / BLOCK - 2, 1);
-    if (tetherbay_submit(small, sizeof small, message, message_length).number) exit(5);
+    if (tetherbay_submit(small, sizeof small, message, message_length).verdict.number) exit(5);
 }
 
 int main(void) {

@@ -1,4 +1,5 @@
 -- Laws that the proofs of this crate share.
+pub mod Looking
 pub mod Marking
 pub mod Laying
 pub mod Adding

@@ -4,11 +4,14 @@ use mathlib.Core.Bool.{true}
 use mathlib.Core.List.{List}
 use Prim.Native.Nat.{ℕ, _/_, _%_, _≤_}
 use lib.ListN.{length}
-use Rattle.laws.specs.Lists.{has, keep, All}
+use Rattle.laws.specs.Lists.{has, keep, apart, All}
 use Rattle.paper.specs.Layout.{Bytes, Block, nOf, sender, pair}
 use Rattle.paper.specs.Book.{dayBlock, slots, used, isSender, isSeries, isSeriesOf, ownSeries, pairIs}
+use Rattle.paper.specs.Sound.{partiesOf}
 use Rattle.paper.specs.Message.{headOf, seriesOf}
 use Rattle.paper.specs.Acceptance.{slotFor, placed}
+use Rattle.facts.specs.Verdict.{sameIdOrPair}
+use Rattle.facts.specs.Senders.{Owned}
 
 -- us are the used ones of `count` slots, h a message's first block, series its series
 pub record Placing (n count : ℕ) (us : List Block) (h : Block) (series : List Block) : Type 0 where
@@ -22,6 +25,9 @@ pub record Placing (n count : ℕ) (us : List Block) (h : Block) (series : List 
   pub series-kind : All (λ y. isSeries y ≡ true) series
   -- a message names no sender's slot
   pub series-slot : All (λ y. isSeriesOf 0 y ≡ true) series
+  pub series-distinct : apart sameIdOrPair series ≡ true
+  pub series-parties : All (λ y. partiesOf (sender h) (pair y) ≡ true) series
+  pub owners : Owned us
   -- the series of the slot that the sender has or gets are its own, and the message has them all
   pub own : keep (isSeriesOf (slotFor us (sender h))) us ≡ ownSeries us (sender h)
   pub present : All (λ x. has (pairIs (pair x)) series ≡ true) (ownSeries us (sender h))

@@ -2,15 +2,18 @@
 use mathlib.Core.Path.{_≡_}
 use mathlib.Core.Bool.{Bool, true, cond}
 use mathlib.Core.List.{List, [], _∷_, _++_}
-use Prim.Native.Nat.{ℕ, zero, suc, _+_, _*_, _/_, _≤_, _<_}
-use lib.ListN.{length, take, getD}
-use Rattle.laws.specs.Tests.{_and_, _or_, neg, is}
-use Rattle.laws.specs.Lists.{place, has, until}
+use Prim.Native.Nat.{ℕ, zero, suc, _+_, _-_, _*_, _/_, _≤_, _<_}
+use lib.ListN.{length, take, getD, set}
+use Rattle.laws.specs.Tests.{_and_, neg, is}
+use Rattle.laws.specs.Lists.{place, has, apart, until, All}
 use Rattle.laws.specs.Cut.{cut}
 use Rattle.laws.specs.InPlace.{over}
 use Rattle.paper.specs.Layout.{Bytes, Block, sendersSlot, pair, withSendersSlot}
-use Rattle.paper.specs.Book.{isFree, isSeries, pairIs, isSeriesOfPair}
-use Rattle.paper.specs.Acceptance.{senderKept, usedAfter}
+use Rattle.paper.specs.Book.{isFree, isSeries, pairIs, isSeriesOf, isSeriesOfPair}
+use Rattle.paper.specs.Marks.{counterpartSlot}
+use Rattle.paper.specs.Acceptance.{senderKept, touched, usedAfter}
+use Rattle.facts.specs.Verdict.{sameIdOrPair}
+use Rattle.facts.specs.Senders.{Owned}
 
 -- a is laid over l from place s on, which gives r and ends at e
 pub record Laid (s : ℕ) (a l r : List Block) (e : ℕ) : Type 0 where
@@ -51,13 +54,42 @@ acceptedOver n h series l = over (usedAfter n (until isFree l) h series) l
 unfoldable pub Numbers : List Block → List Block → List ℕ → Type 0
 Numbers us series numbers = (k : ℕ) → k < length us → getD numbers k 0 ≡ place (pairIs (pair (getD us k []))) series
 
--- y is a series of the sender in a slot, or has a number
-unfoldable pub touchedBy : ℕ → ℕ → Block → Bool
-touchedBy slot number y = isSeries y and (is (sendersSlot y) slot or neg (is number 0))
+-- ---- the search for counterparts
 
--- a series of another sender has a number where the sender in the slot has a series with its pair
-unfoldable pub Other : ℕ → List Block → ℕ → Block → Type 0
-Other slot l number y = isSeries y ≡ true → (sendersSlot y ≡ slot → ⊥) → neg (is number 0) ≡ has (isSeriesOfPair slot (pair y)) l
+-- series of a message that is past the rules
+pub record Sent (series : List Block) : Type 0 where
+  pub few : length series ≤ 200
+  pub slots : All (λ y. isSeriesOf 0 y ≡ true) series
+  pub distinct : apart sameIdOrPair series ≡ true
 
-unfoldable pub Others : ℕ → List Block → List ℕ → Type 0
-Others slot l numbers = (k : ℕ) → k < length l → Other slot l (getD numbers k 0) (getD l k [])
+-- a row of slots, with a slot for number j + 1 unless there was one before
+unfoldable pub firstKept : (slot j : ℕ) (row : List ℕ) → List ℕ
+firstKept slot j row = set row j (cond (is (getD row j 0) 0) slot (getD row j 0))
+
+-- the slots of the sender's series, with that of a block which has a number in the message
+unfoldable pub homeNoted : (slot : ℕ) (block : Block) (own number : ℕ) (homes : List ℕ) → List ℕ
+homeNoted slot block own number homes = cond (is number 0) homes (cond (isSeriesOf own block) (firstKept slot (number - 1) homes) homes)
+
+-- the blocks once the new ones are placed: the sender in the slot own has the series of its message and no others
+pub record Housed (own : ℕ) (l series : List Block) : Type 0 where
+  pub sent : Sent series
+  pub same-pairs : (p : Bytes) → has (isSeriesOfPair own p) l ≡ has (pairIs p) series
+  pub owners : Owned l
+
+-- ---- the marks of both sides
+
+-- past rule 16 the sender's series are those of its message: so a series is one of them, or the other side of one, if it has a number in the message
+unfoldable pub touchedBy : (number : ℕ) (y : Block) → Bool
+touchedBy number y = isSeries y and neg (is number 0)
+
+-- the slot of the other side: what was found for a series of the sender, and the slot of that series for another's
+unfoldable pub partnerBy : (own number : ℕ) (partners homes : List ℕ) (y : Block) → ℕ
+partnerBy own number partners homes y = cond (is (sendersSlot y) own) (getD partners (number - 1) 0) (getD homes (number - 1) 0)
+
+pub record Side (own : ℕ) (l : List Block) (partners homes : List ℕ) (number : ℕ) (y : Block) : Type 0 where
+  pub few : number ≤ 200
+  pub is-touched : touchedBy number y ≡ touched own l y
+  pub partner : touchedBy number y ≡ true → partnerBy own number partners homes y ≡ counterpartSlot l y
+
+unfoldable pub Sides : (own : ℕ) (l : List Block) (partners homes numbers : List ℕ) → Type 0
+Sides own l partners homes numbers = (k : ℕ) → k < length l → Side own l partners homes (getD numbers k 0) (getD l k [])

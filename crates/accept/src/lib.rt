@@ -9,7 +9,8 @@ ghost use Rattle.laws.specs.Lists.{until};
 ghost use Rattle.laws.specs.Cut.{cut};
 ghost use Rattle.paper.specs.Book.{isFree, used};
 ghost use Rattle.paper.specs.Message.{headOf, seriesOf};
-ghost use Rattle.paper.specs.Acceptance.{accepted};
+ghost use Rattle.paper.specs.Acceptance.{placed, accepted};
+ghost use Rattle.paper.specs.Looks.{visited};
 ghost use Rattle.index.specs.Handed.{Handed};
 ghost use Rattle.accept.specs.Fits.{Placing, Fits};
 ghost use Rattle.accept.specs.Steps.{acceptedOver};
@@ -20,6 +21,7 @@ use remarking::remark_all;
 use renewal::renew_all;
 
 pub mod adding;
+pub mod looking;
 pub mod remarking;
 pub mod renewal;
 
@@ -47,9 +49,9 @@ fn accept_into(
     standing: Standing,
     places: &[u16; 1000],
     numbers: &[u16; 1000],
-)
+) -> usize
     requires { ⌜ Placing (standing .n) (length (cut 512 (now slots))) (until isFree (cut 512 (now slots))) (now head) (cut 512 (now series)) × Handed (until isFree (cut 512 (now slots))) (now head) (cut 512 (now series)) (standing .used) (standing .slot) (now places) (now numbers) ⌝ }
-    ensures { λ _. ⌜ cut 512 (now (slots .exit)) ≡ acceptedOver (standing .n) (now (head .entry)) (cut 512 (now (series .entry))) (cut 512 (now (slots .entry))) ⌝ }
+    ensures { λ r. ⌜ (cut 512 (now (slots .exit)) ≡ acceptedOver (standing .n) (now (head .entry)) (cut 512 (now (series .entry))) (cut 512 (now (slots .entry)))) × (r ≡ length (visited (placed (until isFree (cut 512 (now (slots .entry)))) (now (head .entry)) (cut 512 (now (series .entry)))))) ⌝ }
 {
     let had = standing.slot;
     let used = standing.used;
@@ -58,7 +60,7 @@ fn accept_into(
     let next = add_blocks(slots, used, head, series, Slot(had), Slot(slot), places);
     renew_all(&mut slots[..used_end], head, series, Slot(slot), numbers);
     let end = 512 * next;
-    remark_all(&mut slots[..end], standing.n, Slot(slot), numbers);
+    remark_all(&mut slots[..end], standing.n, series, Slot(slot))
 }
 
 // Called where the verdict is 0, which gives `Fits`: so nothing is written before rules 16 and 17 are passed. What the judgement has found is handed
@@ -70,9 +72,9 @@ pub fn accept(
     slot: Slot,
     places: &[u16; 1000],
     numbers: &[u16; 1000],
-)
+) -> usize
     requires { ⌜ Fits (now book) (now message) × Handed (used (now book)) (headOf (now message)) (seriesOf (now message)) «used_count» (slot .0) (now places) (now numbers) ⌝ }
-    ensures { λ _. ⌜ now (book .exit) ≡ accepted (now (book .entry)) (now (message .entry)) ⌝ }
+    ensures { λ r. ⌜ (now (book .exit) ≡ accepted (now (book .entry)) (now (message .entry))) × (r ≡ length (visited (placed (used (now (book .entry))) (headOf (now (message .entry))) (seriesOf (now (message .entry)))))) ⌝ }
 {
     let standing = Standing {
         n: n_of(book) as usize,
@@ -86,5 +88,5 @@ pub fn accept(
         standing,
         places,
         numbers,
-    );
+    )
 }

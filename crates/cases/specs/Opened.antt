@@ -18,6 +18,7 @@ use Rattle.paper.specs.Codes.{table, codeIn, reasonCode, statusCode, replyKind,
 use Rattle.paper.specs.Marks.{isCounterpart, counterpart, counterpartSlot, differenceFrom, firstDifference, differences, markOf, markIn, stateOfMark, stateCode, markCode}
 use Rattle.paper.specs.Nets.{bought, sold, netOf, netsTo, netsOf}
 use Rattle.paper.specs.Acceptance.{slotFor, senderKept, replaced, renewed, fresh, placed, touched, remarked, usedAfter, accepted, submitted}
+use Rattle.paper.specs.Looks.{slotsTo, visited, foundFor, look, lookedOver, noneFound, found, partnersFound, looked, submitAnswer}
 use Rattle.paper.specs.Finals.{lesserOf, finalOf, held, isHeld, heldAt, finalIn, final}
 use Rattle.paper.specs.Opening.{dayBlockOf, openingAllowed, openNumber, openAnswer, opened}
 use Rattle.paper.specs.Clock.{dayState, advanced, clockAnswer, clockMoved}
@@ -56,7 +57,7 @@ orderOfChecks = 0
 
 -- "Marks and finals", and what an acceptance writes
 unfoldable pub marksAndFinals : ℕ
-unfolding isCounterpart counterpart counterpartSlot differenceFrom firstDifference differences markOf markIn stateOfMark stateCode markCode bought sold netOf netsTo netsOf slotFor senderKept replaced renewed fresh placed isSeriesOfPair touched remarked usedAfter accepted submitted lesserOf finalOf held isHeld heldAt finalIn final
+unfolding isCounterpart counterpart counterpartSlot differenceFrom firstDifference differences markOf markIn stateOfMark stateCode markCode bought sold netOf netsTo netsOf slotFor senderKept replaced renewed fresh placed isSeriesOfPair touched remarked usedAfter accepted submitted slotsTo visited foundFor look lookedOver noneFound found partnersFound looked submitAnswer lesserOf finalOf held isHeld heldAt finalIn final
 marksAndFinals = 0
 
 -- "Other calls"

@@ -2,3 +2,4 @@
 pub mod Characters
 pub mod Differing
 pub mod Conversion
+pub mod Looks

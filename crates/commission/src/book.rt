@@ -59,7 +59,9 @@ pub fn submitted(book: &mut [u8], text: &[u8]) -> u32
 {
     let mut room = [0u8; 1536];
     let k = message_text::message_from_text(text, &mut room).length;
-    submit::submit(book, part_of(&room, 0, k)).number
+    let answer = submit::submit(book, part_of(&room, 0, k));
+    let verdict = answer.verdict;
+    verdict.number
 }
 
 fn sellers_text(text: &mut [u8], head: &[u8], more: &[u8]) -> usize

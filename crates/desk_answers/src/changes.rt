@@ -56,11 +56,12 @@ fn clock_told(book: &mut [u8], minute: Minute, line: &mut [u8]) -> Told
     }
 }
 
-// Block 0 of a message is the sender's, block k series k.
+// Block 0 of a message is the sender's, block k series k. The number of looks is no answer to a sender: the line tells the verdict alone.
 fn submit_told(book: &mut [u8], message: &[u8], line: &mut [u8]) -> Told
     ensures { λ r. ⌜ Tells ((verdict (now (book .entry)) (now (message .entry))) .number) (verdictLine (verdict (now (book .entry)) (now (message .entry))) (blockNamed (now (message .entry)) (verdict (now (book .entry)) (now (message .entry))))) r (now (line .entry)) (now (line .exit)) × (now (book .exit) ≡ submitted (now (book .entry)) (now (message .entry))) ⌝ }
 {
-    let verdict = submit::submit(book, message);
+    let answer = submit::submit(book, message);
+    let verdict = answer.verdict;
     let length = verdict_line(line, verdict, block_at(message, verdict.series));
     Told {
         number: verdict.number,

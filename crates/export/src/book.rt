@@ -12,6 +12,7 @@ ghost use Rattle.paper.specs.Listing.{listing};
 ghost use Rattle.listing_text.specs.Text.{textLength, textInto};
 ghost use Rattle.paper.specs.Rules.{verdict};
 ghost use Rattle.paper.specs.Acceptance.{submitted};
+ghost use Rattle.paper.specs.Looks.{submitAnswer};
 ghost use Rattle.export.specs.Demand3.{OpeningKeeps, ConversionKeeps, ClockKeeps, SubmissionKeeps, MarkByMessages, FinalByMessages, PlainRunSaysYes};
 use paper::ClockAnswer;
 use paper::FinalAnswer;
@@ -21,6 +22,7 @@ use paper::OpenAnswer;
 use paper::PlainRunAnswer;
 use paper::Position;
 use paper::Rule;
+use paper::SubmitAnswer;
 use paper::Verdict;
 
 #[no_mangle]
@@ -79,10 +81,11 @@ pub extern "C" fn tetherbay_clock(book: &mut [u8], minute: u16) -> ClockAnswer
     clock::clock(book, Minute(minute))
 }
 
+// Isolation (promise 5) is said of the verdict alone: the number of looks counts other senders' slots too, and stands outside it (C-23).
 #[no_mangle]
-pub extern "C" fn tetherbay_submit(book: &mut [u8], message: &[u8]) -> Verdict
-    ensures { λ r. ⌜ (r ≡ verdict (now (book .entry)) (now (message .entry))) × (now (book .exit) ≡ submitted (now (book .entry)) (now (message .entry))) ⌝ }
-    ensures { λ r. ⌜ SubmissionKeeps (now (book .entry)) (now (message .entry)) (r .number) (now (book .exit)) ⌝ }
+pub extern "C" fn tetherbay_submit(book: &mut [u8], message: &[u8]) -> SubmitAnswer
+    ensures { λ r. ⌜ (r ≡ submitAnswer (now (book .entry)) (now (message .entry))) × (now (book .exit) ≡ submitted (now (book .entry)) (now (message .entry))) ⌝ }
+    ensures { λ r. ⌜ SubmissionKeeps (now (book .entry)) (now (message .entry)) (r .verdict .number) (now (book .exit)) ⌝ }
 {
     submit::submit(book, message)
 }

@@ -22,6 +22,10 @@ pub mod Renewal
 pub mod Remarking
 pub mod Senders
 pub mod Stored
+-- whose counterpart a series is, and how it is sought slot by slot (C-23)
+pub mod Sides
+pub mod Looks
+pub mod Partners
 -- what a conversion does to each block, and the messages that it finds kept
 pub mod Conversion
 pub mod KeptMessages

@@ -1,7 +1,7 @@
 -- A stored series is found by kind, sender's slot and pair: a change of a block that leaves these three leaves every search for a series or a counterpart.
 use Rattle.laws.specs.Base.{_≡_, refl, ap, Bool, true, false, Option, none, some, Option·map, List, ℕ}
 use Rattle.laws.specs.Tests.{_and_}
-use Rattle.laws.specs.Tests.Laws.{split, and-left, and-right, and-both, and-no-left, is-yes, is-equal, is-same}
+use Rattle.laws.specs.Tests.Laws.{split, and-left, and-right, and-both, and-no-left, neg-yes, neg-true, is-yes, is-no, is-equal, is-same, is-other}
 use Rattle.laws.specs.Lists.{find}
 use Rattle.laws.specs.Lists.Same.{same-yes, same-equal}
 use Rattle.paper.specs.Layout.{Bytes, Block, sendersSlot, pair, quantities}
@@ -53,6 +53,14 @@ counterpart-series slot k b t = and-left _ _ (and-left _ _ t)
 pub counterpart-pair : (slot : ℕ) (k : Bytes) (b : Block) → isCounterpart slot k b ≡ true → pairIs k b ≡ true
 unfolding isCounterpart
 counterpart-pair slot k b t = and-right _ _ t
+
+pub counterpart-slot : (slot : ℕ) (k : Bytes) (b : Block) → isCounterpart slot k b ≡ true → sendersSlot b ≡ slot → ⊥
+unfolding isCounterpart
+counterpart-slot slot k b t = is-no _ _ (neg-yes _ (and-right _ _ (and-left _ _ t)))
+
+pub counterpart-yes : (slot : ℕ) (k : Bytes) (b : Block) → isSeries b ≡ true → (sendersSlot b ≡ slot → ⊥) → pair b ≡ k → isCounterpart slot k b ≡ true
+unfolding isCounterpart
+counterpart-yes slot k b s n e = and-both _ _ (and-both _ _ s (neg-true _ (is-other _ _ n))) (pair-is-equal k b e)
 
 -- ---- what is seen of the series that a search finds
 

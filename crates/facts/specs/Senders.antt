@@ -1,11 +1,11 @@
 -- Every series stands for a sender of the book, and a sender keeps its slot: an acceptance invents at most one sender, the message's, and puts it behind all others.
 use Rattle.laws.specs.Base.{_≡_, refl, sym, ap, _∙_, true, false, some, List, [], _∷_, _++_, map, ℕ, zero, suc, _≤_, _<_, arith, length, getD, length-map}
 use Rattle.laws.specs.Tests.{_and_, is}
-use Rattle.laws.specs.Tests.Laws.{split, clash, and-left, and-right, and-both, is-other}
+use Rattle.laws.specs.Tests.Laws.{split, clash, and-left, and-right, and-both, or-yes-left, is-other}
 use Rattle.laws.specs.Lists.{same, place, nth, has, apart, keep, All}
 use Rattle.laws.specs.Lists.Same.{same-no}
-use Rattle.laws.specs.Lists.Each.{all-imply, all-each, getD-inside}
-use Rattle.laws.specs.Lists.Search.{has-yes, has-no-place, has-no-all, all-has-no, find-passes, place-positive, place-length, nth-place, place-append-first, place-append-second, place-append-only, has-map-each, place-map-each}
+use Rattle.laws.specs.Lists.Each.{all-imply, all-both, all-each, getD-inside}
+use Rattle.laws.specs.Lists.Search.{has-yes, has-no-place, has-no-all, all-has-no, has-append, find-passes, place-positive, place-length, nth-place, place-append-first, place-append-second, place-append-only, has-map-each, place-map-each}
 use Rattle.laws.specs.Lists.Apart.{apart-place}
 use Rattle.laws.specs.Lists.Keep.{keep-agree}
 use Rattle.paper.specs.Layout.{Bytes, Block, sender, sendersSlot, pair, withSendersSlot}
@@ -13,9 +13,10 @@ use Rattle.paper.specs.Book.{dayBlock, used, isSender, isSeries, numbered, isSe
 use Rattle.paper.specs.Sound.{partiesOf, usedSound, sameSender}
 use Rattle.paper.specs.Rules.{isNew}
 use Rattle.paper.specs.Acceptance.{slotFor, senderKept, renewed, fresh, placed, remarked, usedAfter}
+use Rattle.facts.specs.Layout.{pair-with-senders-slot}
 use Rattle.facts.specs.Book.{no-block-sender, series-kind, sender-block-eic, sender-block-yes, sender-block-no, sender-block-own, sender-block-series, series-of-series, series-of-slot, all-numbered}
 use Rattle.facts.specs.Sound.{Sound, used-series, series-owner}
-use Rattle.facts.specs.Renewal.{Shape, series-with-senders-slot, sender-kept-sender, sender-kept-is-sender, sender-block-renewed, by-fresh}
+use Rattle.facts.specs.Renewal.{Shape, series-with-senders-slot, sender-kept-sender, sender-kept-is-sender, sender-kept-no-series, series-renewed, renewed-keeps, sender-block-renewed, adopted, by-fresh, by-origin}
 use Rattle.facts.specs.Remarking.{sender-block-remarked}
 
 -- ---- a slot and its sender
@@ -175,3 +176,50 @@ module _ (us : List Block) (h : Block) (series : List Block) (c : Shape us h ser
 
   pub slot-after-other : (n : ℕ) (e : Bytes) → same (sender h) e ≡ false → slotOf (usedAfter n us h series) e ≡ slotOf us e
   slot-after-other n e d = slot-after n e ∙ slot-placed-other e d
+
+  -- every series placed stands for a sender: a stored one for its own, whose slot stays, and the message's for the message's sender
+  has-sender-block-placed : (e : Bytes) → has (isSenderBlockOf e) us ≡ true → has (isSenderBlockOf e) (placed us h series) ≡ true
+  unfolding placed
+  has-sender-block-placed e k = has-append (isSenderBlockOf e) (map again us) (fresh us h series) ∙ or-yes-left _ _ (has-sender-block-renewed e ∙ k)
+
+  slot-placed-known : (e : Bytes) → has (isSenderBlockOf e) us ≡ true → slotOf (placed us h series) e ≡ slotOf us e
+  unfolding slotOf placed
+  slot-placed-known e k = place-append-first (isSenderBlockOf e) (map again us) (fresh us h series) (has-sender-block-renewed e ∙ k) ∙ place-sender-block-renewed e
+
+  sender-placed : has (isSenderBlockOf (sender h)) (placed us h series) ≡ true
+  sender-placed = split (has (isSenderBlockOf (sender h)) (placed us h series)) (λ u. u) (λ u.
+      let z : slotFor us (sender h) ≡ zero = sym slot-placed-own ∙ slot-of-none (placed us h series) (sender h) u in
+      split (has (isSenderBlockOf (sender h)) us)
+      (λ k. has-sender-block-placed (sender h) k)
+      (λ k. absurd (omega (arith, slot-for-new us (sender h) k))))
+
+  pub owned-placed : Owned us → All (λ y. partiesOf (sender h) (pair y) ≡ true) series → Owned (placed us h series)
+  unfolding Owned
+  owned-placed w p =
+      by-origin us h series c (λ z. isSeries z ≡ true → Owner now z) (λ x. isSeries x ≡ true → Owner us x)
+      (λ y. (length y ≡ 512) × (partiesOf (sender h) (pair y) ≡ true)) w
+      (all-both (λ y. length y ≡ 512) (λ y. partiesOf (sender h) (pair y) ≡ true) series (c .series-whole) p)
+      old (λ s. clash s (sender-kept-no-series us h series c)) young
+    where
+      now : List Block
+      now = placed us h series
+
+      old : (x : Block) → (isSeries x ≡ true → Owner us x) → isSeries (again x) ≡ true → Owner now (again x)
+      old x f t =
+          let s : isSeries x ≡ true = sym (series-renewed us h series c x) ∙ t in
+          let o : Owner us x = f s in
+          record {
+            eic = o .eic;
+            known = has-sender-block-placed (o .eic) (o .known);
+            slot = slot-placed-known (o .eic) (o .known) ∙ o .slot ∙ sym (renewed-keeps us h series c .slot x s);
+            party = rw (renewed-keeps us h series c .pairs x s) (o .party);
+          }
+
+      young : (y : Block) → (length y ≡ 512) × (partiesOf (sender h) (pair y) ≡ true) → isSeries (withSendersSlot (slotFor us (sender h)) y) ≡ true
+          → Owner now (withSendersSlot (slotFor us (sender h)) y)
+      young y q s = record {
+        eic = sender h;
+        known = sender-placed;
+        slot = slot-placed-own ∙ sym (adopted us h series c y (q .0));
+        party = rw (pair-with-senders-slot (slotFor us (sender h)) y) (q .1);
+      }

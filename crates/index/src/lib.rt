@@ -88,7 +88,7 @@ fn link_own_block(
 }
 
 // The series of the sender in a slot, from the last back.
-fn link_own(us: &[u8], slot: Slot, by: By, heads: &mut [u16; 1024], nexts: &mut [u16; 1000])
+pub fn link_own(us: &[u8], slot: Slot, by: By, heads: &mut [u16; 1024], nexts: &mut [u16; 1000])
     requires { ⌜ (length (now us) / 512 ≤ 1000) × (zeros (now heads) ≡ true) × (length (now heads) ≡ 1024) × (length (now nexts) ≡ 1000) ⌝ }
     ensures { λ _. ⌜ Links (ownIn (slot .0) by) (cut 512 (now (us .entry))) 0 (now (heads .exit)) (now (nexts .exit)) ⌝ }
 {
@@ -107,7 +107,7 @@ fn is_own_with(x: &[u8], slot: Slot, by: By, v: &[u8]) -> bool
 }
 
 // The place of the first of them that has a key; 0 where none has it.
-fn own_with(
+pub fn own_with(
     us: &[u8],
     slot: Slot,
     by: By,

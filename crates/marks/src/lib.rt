@@ -95,22 +95,31 @@ fn compare(n: usize, a: &[u8], b: &[u8]) -> Difference
     Difference { count, first }
 }
 
-// Count, first and partner as the block keeps them: zeros where the series stands alone.
+// Count, first and partner as the block keeps them: zeros where the series stands alone. The partner is handed in, 0 where there is none.
+pub fn mark_with(n: usize, us: &[u8], x: &[u8], partner: Slot) -> [u8; 4]
+    requires { ⌜ (n ≤ 100) × (partner .0 ≡ counterpartSlot (cut 512 (now us)) (now x)) ⌝ }
+    ensures { λ r. ⌜ r ≡ markIn n (cut 512 (now (us .entry))) (now (x .entry)) ⌝ }
+{
+    let slot = partner.0;
+    if slot == 0 {
+        return [0, 0, 0, 0];
+    }
+    let d = compare(n, x, numbered(us, Slot(slot)));
+    [
+        d.count as u8,
+        d.first as u8,
+        (slot % 256) as u8,
+        (slot / 256 % 256) as u8,
+    ]
+}
+
+// The partner is sought.
 pub fn mark_in(n: usize, us: &[u8], x: &[u8], heads: &[u16; 1024], nexts: &[u16; 1000]) -> [u8; 4]
     requires { ⌜ (n ≤ 100) × (length (now us) / 512 ≤ 1000) × Links seriesIn (cut 512 (now us)) 0 (now heads) (now nexts) ⌝ }
     ensures { λ r. ⌜ r ≡ markIn n (cut 512 (now (us .entry))) (now (x .entry)) ⌝ }
 {
-    let partner = counterpart_slot(us, x, heads, nexts).0;
-    if partner == 0 {
-        return [0, 0, 0, 0];
-    }
-    let d = compare(n, x, numbered(us, Slot(partner)));
-    [
-        d.count as u8,
-        d.first as u8,
-        (partner % 256) as u8,
-        (partner / 256 % 256) as u8,
-    ]
+    let partner = counterpart_slot(us, x, heads, nexts);
+    mark_with(n, us, x, partner)
 }
 
 // A block that is no series has no mark to be wrong.

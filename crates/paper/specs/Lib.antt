@@ -17,6 +17,7 @@ pub mod Rules
 pub mod Marks
 pub mod Nets
 pub mod Acceptance
+pub mod Looks
 pub mod Finals
 -- Other calls
 pub mod Opening

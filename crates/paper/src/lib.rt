@@ -24,7 +24,7 @@ pub const SELLERS: Rule = Rule(0);
 // The lesser of the seller's and the buyer's, a missing series counting 0.
 pub const LESSER: Rule = Rule(1);
 
-// The answer to a submission: the number of the first broken rule, or 0, with its reason code (0 where it has none; A53 is 53), the series and the
+// The verdict on a message: the number of the first broken rule, or 0, with its reason code (0 where it has none; A53 is 53), the series and the
 // position at which it is broken, and on 4 and 8 the number that the EIC check gives the code at fault: which character is wrong.
 #[repr(C)]
 pub struct Verdict {
@@ -33,6 +33,13 @@ pub struct Verdict {
     pub series: usize,
     pub position: Position,
     pub character: u8,
+}
+
+// The answer to a submission, with the number of slots that its search for counterparts looked at: 0 on every refusal.
+#[repr(C)]
+pub struct SubmitAnswer {
+    pub verdict: Verdict,
+    pub looked: usize,
 }
 
 // The answer to an opening, on 21 with the number that the EIC check gives the code at fault.

@@ -27,8 +27,8 @@ pub mod PlainRun
 pub mod Conversion
 pub mod KeptMessages
 pub mod Invariant
-pub mod Sides
 pub mod PlainMarks
+pub mod Looks
 pub mod Readings
 pub mod Finals
 -- isolation, determinacy

@@ -1,16 +1,17 @@
 -- THE PAGE OF PROMISES. Each promise is stated in the words of `paper`, with a few more that stand in Words; each proof is one line that cites the file that carries
 -- the weight.
-use Rattle.laws.specs.Base.{_≡_, true, false, none, some, Option·getD, Option·map, List, [], _∷_, ℕ, _+_, _*_, _≤_, _<_, length, drop}
+use Rattle.laws.specs.Base.{_≡_, true, false, none, some, Option·getD, Option·map, List, [], _∷_, ℕ, _+_, _*_, _≤_, _<_, length, drop, getD}
 use Rattle.laws.specs.Lists.{find, nth, All}
 use Rattle.laws.specs.Bytes.{little}
 use Rattle.paper.specs.Layout.{Bytes, Block, ruleOf, sellersRule, lesserRule, sender, nets, net, sendersSlot, pair, mark, partner, quantities, quantity}
 use Rattle.paper.specs.Book.{dayBlock, used, freeSlots, isSender, isSeries, isSenderBlockOf, slotOf, isSeriesOf, isSeriesOfPair, ownSender, ownSeries}
 use Rattle.paper.specs.Sound.{sound}
-use Rattle.paper.specs.Message.{headOf}
+use Rattle.paper.specs.Message.{headOf, seriesOf}
 use Rattle.paper.specs.Rules.{numberOf, verdict}
-use Rattle.paper.specs.Marks.{firstDifference, differences, markOf}
+use Rattle.paper.specs.Marks.{isCounterpart, counterpartSlot, firstDifference, differences, markOf}
 use Rattle.paper.specs.Nets.{bought, sold, netOf}
 use Rattle.paper.specs.Acceptance.{accepted, submitted}
+use Rattle.paper.specs.Looks.{found, partnersFound, submitAnswer}
 use Rattle.paper.specs.PlainRun.{plainRun}
 use Rattle.paper.specs.Finals.{lesserOf, finalOf, held, final}
 use Rattle.paper.specs.Readings.{markAnswer, acceptedBlock}
@@ -24,12 +25,14 @@ use Rattle.facts.specs.Verdict.{accepts}
 use Rattle.facts.specs.Conversion.{converts, conversion-refused}
 use Rattle.facts.specs.Marks.{Agree, Differ, no-difference-agree, difference-differ, agree-no-differences, no-differences-agree, no-differences-no-difference, no-difference-no-differences, differences-most, mark-agree, mark-differ}
 use Rattle.facts.specs.Nets.{SignedSum, net-signed}
+use Rattle.facts.specs.Looks.{found-counterpart}
 use Rattle.facts.specs.Finals.{lesser-below-sellers, lesser-below-buyers, lesser-greatest, final-by-sellers, final-by-lesser}
 use Rattle.promises.specs.Laws.Conversion.{series-stays, sender-stays, true-book-stays}
 use Rattle.promises.specs.Laws.Finals.{rule-stays, final-stays}
 use Rattle.promises.specs.Laws.Invariant.{Invariant, held-plain, content-plain, invariant-run, invariant-begun}
 use Rattle.promises.specs.Laws.Isolation.{verdict-isolated, determined}
 use Rattle.promises.specs.Laws.KeptMessages.{head-of-latest-kept, series-of-latest-kept}
+use Rattle.promises.specs.Laws.Looks.{verdict-answered, looked-refused, looked-accepted, looked-most, partner-of-own, partner-of-counterpart}
 use Rattle.promises.specs.Laws.Others.{others-kept, rest-kept}
 use Rattle.promises.specs.Laws.PlainMarks.{sender-named, mark-plain, partner-plain, says-yes}
 use Rattle.promises.specs.Laws.ReadBack.{day-block-accepted}
@@ -290,4 +293,42 @@ the-lesser-is-at-most-the-buyers = lesser-below-buyers
 pub the-lesser-is-the-greatest-such : (sellers buyers k : ℕ) → k ≤ sellers → k ≤ buyers → k ≤ lesserOf sellers buyers
 the-lesser-is-the-greatest-such = lesser-greatest
 
--- ---- 9. The useless versions contradict these promises: see the crate `useless`
+-- ---- 9. The search for counterparts (C-23)
+-- What a submission reports beside its verdict is a number of looks at slots, of which the isolation of promise 5 does not speak. Each look is `Looks.look` of `paper`,
+-- which is lent one slot's number and block, the message's series, the sender's slot and what is found so far.
+
+-- the verdict is what it was
+pub the-answer-has-the-verdict : (book message : Bytes) → (submitAnswer book message) .verdict ≡ verdict book message
+the-answer-has-the-verdict = verdict-answered
+
+pub a-refusal-reports-0 : (book message : Bytes) → (numberOf (verdict book message) ≡ 0 → ⊥) → (submitAnswer book message) .looked ≡ 0
+a-refusal-reports-0 = looked-refused
+
+-- an acceptance looks at every used slot once: with m series in a book with u used slots, both taken after it, at no more than u + m
+pub an-acceptance-looks-at-the-used-slots : (book message : Bytes) → numberOf (verdict book message) ≡ 0
+    → (submitAnswer book message) .looked ≡ length (used (accepted book message))
+an-acceptance-looks-at-the-used-slots book message e = looked-accepted book message e (accepts book message e)
+
+pub looks-are-at-most-u-and-m : (book message : Bytes) → numberOf (verdict book message) ≡ 0
+    → (submitAnswer book message) .looked ≤ length (used (accepted book message)) + length (seriesOf message)
+looks-are-at-most-u-and-m book message e = looked-most book message e (accepts book message e)
+
+-- the partners written are those found: in the mark of each series x of the sender stands what the looks have found for the message's series with its pair, k + 1
+pub partners-written-are-found : (book message : Bytes) → numberOf (verdict book message) ≡ 0 → (slot : ℕ) (x : Block)
+    → nth (used (accepted book message)) slot ≡ some x → isSeriesOf (slotOf (used (accepted book message)) (sender (headOf message))) x ≡ true
+    → (k : ℕ) → k < length (seriesOf message) → pair x ≡ pair (getD (seriesOf message) k []) → partner x ≡ getD (partnersFound book message) k 0
+partners-written-are-found book message e = partner-of-own book message (accepts book message e)
+
+-- and in the mark of its counterpart y its own slot: nothing is sought for that
+pub counterparts-name-the-placed-series : (book message : Bytes) → numberOf (verdict book message) ≡ 0 → (slot : ℕ) (x : Block)
+    → nth (used (accepted book message)) slot ≡ some x → isSeriesOf (slotOf (used (accepted book message)) (sender (headOf message))) x ≡ true
+    → (other : ℕ) (y : Block) → nth (used (accepted book message)) other ≡ some y
+    → isCounterpart (slotOf (used (accepted book message)) (sender (headOf message))) (pair x) y ≡ true → partner y ≡ slot
+counterparts-name-the-placed-series book message e = partner-of-counterpart book message (accepts book message e)
+
+-- the bytes stay: over any blocks the looks find for each series of any message the slot that the mark of a series x with its pair has always named
+pub the-looks-find-the-counterparts : (after series : List Block) (own k : ℕ) → k < length series → (x : Block) → sendersSlot x ≡ own
+    → pair x ≡ pair (getD series k []) → getD (found after series own) k 0 ≡ counterpartSlot after x
+the-looks-find-the-counterparts = found-counterpart
+
+-- ---- 10. The useless versions contradict these promises: see the crate `useless`

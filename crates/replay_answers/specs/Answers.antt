@@ -2,7 +2,7 @@
 -- fields of a record do not fill its body nothing is told and the line is empty: the record is malformed.
 pub mod Laws
 use mathlib.Core.Bool.{Bool, cond}
-use mathlib.Core.List.{List, [], _∷_}
+use mathlib.Core.List.{List, [], _∷_, _++_}
 use Prim.Native.Nat.{ℕ, zero, suc, _+_}
 use lib.ListN.{length, drop}
 use Rattle.laws.specs.Tests.{_or_, is, less}
@@ -11,6 +11,7 @@ use Rattle.paper.specs.declared.OpenAnswer.{OpenAnswer}
 use Rattle.paper.specs.declared.Rule.{Rule}
 use Rattle.paper.specs.declared.ClockAnswer.{ClockAnswer}
 use Rattle.paper.specs.declared.Verdict.{Verdict}
+use Rattle.paper.specs.declared.SubmitAnswer.{SubmitAnswer}
 use Rattle.paper.specs.declared.MarkAnswer.{MarkAnswer}
 use Rattle.paper.specs.declared.FinalAnswer.{FinalAnswer}
 use Rattle.paper.specs.declared.PlainRunAnswer.{PlainRunAnswer}
@@ -26,6 +27,7 @@ use Rattle.paper.specs.Message.{seriesNumbered}
 use Rattle.paper.specs.Sound.{sound}
 use Rattle.paper.specs.Rules.{verdict}
 use Rattle.paper.specs.Acceptance.{submitted}
+use Rattle.paper.specs.Looks.{submitAnswer}
 use Rattle.paper.specs.Opening.{Opening, openAnswer, opened}
 use Rattle.paper.specs.Clock.{clockAnswer, clockMoved}
 use Rattle.paper.specs.Conversion.{conversionNumber, converted}
@@ -51,6 +53,10 @@ clockTold a = a .number ∷ a .state .n ∷ a .state .lead ∷ a .state .clock .
 
 unfoldable pub verdictTold : Verdict → List ℕ
 verdictTold v = v .number ∷ v .code ∷ v .series ∷ v .position .0 ∷ v .character ∷ []
+
+-- behind the numbers that `judge` tells, how many slots were looked at
+unfoldable pub submitTold : SubmitAnswer → List ℕ
+submitTold a = verdictTold (a .verdict) ++ a .looked ∷ []
 
 unfoldable pub markTold : MarkAnswer → List ℕ
 markTold m = m .number ∷ m .differ ∷ m .first .0 ∷ m .partner .0 ∷ []
@@ -156,7 +162,7 @@ unfoldable pub dayNumbers : (tag : ℕ) (book body : Bytes) → List ℕ
 dayNumbers tag book body =
     cond (is tag 5) (openNumbers lesserRule 3 book body)
     (cond (is tag 6) (clockTold (clockAnswer book (number 2 0 body)))
-    (cond (is tag 7) (verdictTold (verdict book body))
+    (cond (is tag 7) (submitTold (submitAnswer book body))
     (cond (is tag 24) (openNumbers (ruleNamed body) 4 book body)
     (conversionNumber book ∷ []))))
 

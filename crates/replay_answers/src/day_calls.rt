@@ -1,12 +1,13 @@
-// The calls that may change the book: open, clock, submit, open_by, convert; and judge, which tells what submit would.
+// The calls that may change the book: open, clock, submit, open_by, convert; and judge, which tells what submit would, but for the looks.
 ghost use mathlib.Core.Path.{_≡_};
 ghost use mathlib.Core.List.{[], _∷_};
 ghost use Rattle.paper.specs.Rules.{verdict};
 ghost use Rattle.paper.specs.Acceptance.{submitted};
+ghost use Rattle.paper.specs.Looks.{submitAnswer};
 ghost use Rattle.paper.specs.Clock.{clockAnswer, clockMoved};
 ghost use Rattle.paper.specs.Conversion.{conversionNumber, converted};
 ghost use Rattle.stream.specs.Told.{numbersOf};
-ghost use Rattle.replay_answers.specs.Answers.{clockTold, verdictTold, openNumbers, openAfter, dayNumbers, dayAfter};
+ghost use Rattle.replay_answers.specs.Answers.{clockTold, verdictTold, submitTold, openNumbers, openAfter, dayNumbers, dayAfter};
 use block::numbers::byte_or_zero;
 use block::numbers::number_2;
 use paper::LESSER;
@@ -20,6 +21,7 @@ use stream::told::five;
 use stream::told::four;
 use stream::told::nothing;
 use stream::told::one;
+use stream::told::six;
 use stream::told::two;
 
 // One byte of n, two of lead and, of a record that names its rule, one of that; then, from a place on, the names of day, area and receiver.
@@ -71,9 +73,18 @@ fn verdict_told(v: Verdict) -> Told
 }
 
 fn submit(book: &mut [u8], message: &[u8]) -> Told
-    ensures { λ r. ⌜ (numbersOf r ≡ verdictTold (verdict (now (book .entry)) (now (message .entry)))) × (now (book .exit) ≡ submitted (now (book .entry)) (now (message .entry))) ⌝ }
+    ensures { λ r. ⌜ (numbersOf r ≡ submitTold (submitAnswer (now (book .entry)) (now (message .entry)))) × (now (book .exit) ≡ submitted (now (book .entry)) (now (message .entry))) ⌝ }
 {
-    verdict_told(submit::submit(book, message))
+    let answer = submit::submit(book, message);
+    let verdict = answer.verdict;
+    six(
+        verdict.number as usize,
+        verdict.code as usize,
+        verdict.series,
+        verdict.position.0,
+        verdict.character as usize,
+        answer.looked,
+    )
 }
 
 pub fn judge(book: &[u8], message: &[u8]) -> Told

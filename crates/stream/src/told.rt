@@ -8,7 +8,7 @@ ghost use Rattle.stream.specs.Told.{numbersOf};
 // In the order of their line, and how many they are. A malformed record is told nothing.
 pub struct Told {
     pub count: usize,
-    pub numbers: [usize; 5],
+    pub numbers: [usize; 6],
 }
 
 pub fn nothing() -> Told
@@ -16,7 +16,7 @@ pub fn nothing() -> Told
 {
     Told {
         count: 0,
-        numbers: [0, 0, 0, 0, 0],
+        numbers: [0, 0, 0, 0, 0, 0],
     }
 }
 
@@ -25,7 +25,7 @@ pub fn one(a: usize) -> Told
 {
     Told {
         count: 1,
-        numbers: [a, 0, 0, 0, 0],
+        numbers: [a, 0, 0, 0, 0, 0],
     }
 }
 
@@ -34,7 +34,7 @@ pub fn two(a: usize, b: usize) -> Told
 {
     Told {
         count: 2,
-        numbers: [a, b, 0, 0, 0],
+        numbers: [a, b, 0, 0, 0, 0],
     }
 }
 
@@ -43,7 +43,7 @@ pub fn four(a: usize, b: usize, c: usize, d: usize) -> Told
 {
     Told {
         count: 4,
-        numbers: [a, b, c, d, 0],
+        numbers: [a, b, c, d, 0, 0],
     }
 }
 
@@ -52,7 +52,16 @@ pub fn five(a: usize, b: usize, c: usize, d: usize, e: usize) -> Told
 {
     Told {
         count: 5,
-        numbers: [a, b, c, d, e],
+        numbers: [a, b, c, d, e, 0],
+    }
+}
+
+pub fn six(a: usize, b: usize, c: usize, d: usize, e: usize, f: usize) -> Told
+    ensures { λ r. ⌜ numbersOf r ≡ a ∷ b ∷ c ∷ d ∷ e ∷ f ∷ [] ⌝ }
+{
+    Told {
+        count: 6,
+        numbers: [a, b, c, d, e, f],
     }
 }
 

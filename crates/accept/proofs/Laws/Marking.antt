@@ -1,17 +1,16 @@
 -- A mark is worked out from kind, sender's slot, pair and quantities of the blocks, and a mark that is put right changes none of these: so a list
--- of which some blocks are marked anew gives the same marks, and its links are the same.
-use Rattle.laws.specs.Kit.{_≡_, refl, sym, ap, _∙_, Bool, true, false, Option, none, some, Option·map, List, [], map, ℕ, _<_, length, getD, set, set-getD, _and_, _or_, neg, is, split, is-no}
+-- of which some blocks are marked anew gives the same marks, and the same partners.
+use Rattle.laws.specs.Kit.{_≡_, refl, sym, ap, _∙_, Bool, true, false, Option, none, some, Option·map, List, [], map, ℕ, _+_, _<_, arith, length, getD, set, set-getD, _and_, _or_, neg, is, and-right, is-no}
+use Rattle.laws.specs.Tests.Laws.{neg-yes}
 use Rattle.laws.specs.Lists.{same, find, place, has}
 use Rattle.laws.specs.Lists.Search.{has-map, find-map, place-map}
-use Rattle.laws.specs.InPlace.{done, done-seen, done-next}
+use Rattle.laws.specs.InPlace.{done, done-seen, done-next, done-more}
 use Rattle.paper.specs.Layout.{Bytes, Block, kind, sendersSlot, pair, quantities, withMark}
 use Rattle.paper.specs.Book.{isSeries, pairIs, isSeriesOfPair}
 use Rattle.paper.specs.Marks.{isCounterpart, counterpart, counterpartSlot, markIn}
 use Rattle.paper.specs.Acceptance.{touched, remarked}
 use Rattle.facts.specs.Remarking.{kind-remarked, senders-slot-remarked, pair-remarked, quantities-remarked}
-use Rattle.index.specs.Linked.{bucket, seriesIn, Links}
-use Rattle.index.specs.Linked.Laws.{links-viewed}
-use Rattle.accept.specs.Steps.{touchedBy, Other, Others}
+use Rattle.accept.specs.Steps.{touchedBy, partnerBy, Side, Sides}
 
 -- ---- what a mark is worked out from
 
@@ -60,11 +59,13 @@ has-view slot p l = sym (has-map view (isSeriesOfPairView slot p) l)
 has-reads : (slot : ℕ) (p : Bytes) (l r : List Block) → map view l ≡ map view r → has (isSeriesOfPair slot p) l ≡ has (isSeriesOfPair slot p) r
 has-reads slot p l r e = rw (has-view slot p l, has-view slot p r, e)
 
-touched-by : (slot : ℕ) (l : List Block) (number : ℕ) (y : Block) → Other slot l number y → touchedBy slot number y ≡ touched slot l y
-unfolding touchedBy touched Other _and_ _or_
-touched-by slot l number y o = split (isSeries y)
-    (λ t. split (is (sendersSlot y) slot) (λ u. rw (t, u)) (λ u. rw (t, u) (o t (is-no _ _ u))))
-    (λ t. rw t)
+touched-reads : (slot : ℕ) (l r : List Block) (y : Block) → map view l ≡ map view r → touched slot l y ≡ touched slot r y
+unfolding touched
+touched-reads slot l r y e = rw (has-reads slot (pair y) l r e)
+
+counterpart-reads : (l r : List Block) (y : Block) → map view l ≡ map view r → counterpartSlot l y ≡ counterpartSlot r y
+unfolding counterpartSlot
+counterpart-reads l r y e = rw (place-view (sendersSlot y) (pair y) l, place-view (sendersSlot y) (pair y) r, e)
 
 -- ---- marked anew
 
@@ -77,34 +78,43 @@ module _ (n slot : ℕ) where
   unfolding view
   remarked-keeps l y = rw (kind-remarked n slot l y, senders-slot-remarked n slot l y, pair-remarked n slot l y, quantities-remarked n slot l y)
 
-  module _ (l : List Block) (number : ℕ) {r : Bool} where
-    pub remarked-yes : (y : Block) {m : Bytes} → Other slot l number y → r ≡ true → r ≡ touchedBy slot number y → m ≡ markIn n l y → withMark m y ≡ remarked n slot l y
-    unfolding remarked
-    remarked-yes y o t e q = rw (← touched-by slot l number y o, ← e, t, q)
+-- ---- a block that is touched
 
-    pub remarked-no : (i : ℕ) → Other slot l number (getD l i []) → r ≡ false → r ≡ touchedBy slot number (getD l i []) → l ≡ set l i (remarked n slot l (getD l i []))
-    unfolding remarked
-    remarked-no i o t e = rw (← touched-by slot l number (getD l i []) o, ← e, t) (sym (set-getD l i []))
+pub touched-number : (k : ℕ) (y : Block) {r : Bool} → r ≡ touchedBy k y → r ≡ true → 0 < k
+unfolding touchedBy
+touched-number k y u t = omega (arith, is-no k 0 (neg-yes _ (and-right _ _ (sym u ∙ t))))
 
--- ---- the links are told by kinds and pairs
-
-seriesInView : ℕ → View → Bool
-seriesInView g v = is (v .kind) 2 and is (bucket (v .pair)) g
-
-series-view : (g : ℕ) (x : Block) → seriesIn g x ≡ seriesInView g (view x)
-unfolding seriesIn seriesInView view isSeries
-series-view g x = refl
+pub partner-kept : {slot : ℕ} {l : List Block} {partners homes : List ℕ} {k : ℕ} {z : Block} → Side slot l partners homes k z
+    → {y : Block} → y ≡ z → {r : Bool} → r ≡ touchedBy k y → r ≡ true → {x : Block} → x ≡ z → {p : ℕ} → p ≡ partnerBy slot k partners homes x → p ≡ counterpartSlot l z
+partner-kept s o u t w e = rw w at e ∙ s .partner (sym (rw o at u) ∙ t)
 
 -- block i of a, the list l of which the first i are marked anew
-module _ (n slot : ℕ) (l a : List Block) (i : ℕ) (e : a ≡ done (remarked n slot) l i) where
+module _ (n slot : ℕ) (l a : List Block) (i : ℕ) (h : i < length l) (e : a ≡ done (remarked n slot) l i) where
   seen : map view l ≡ map view a
   seen = sym (ap (map view) e ∙ done-seen view (remarked n slot) (remarked-keeps n slot) (remarked-reads n slot) l i)
 
-  pub links-kept : (h n : List ℕ) → Links seriesIn l 0 h n → Links seriesIn a 0 h n
-  links-kept h n f = links-viewed view seriesIn seriesInView series-view l a seen h n f
+  -- the side of block i, whose number in the message is k
+  module _ (partners homes numbers : List ℕ) (f : Sides slot l partners homes numbers) {k : ℕ} (q : k ≡ getD numbers i 0) where
+    pub side-kept : Side slot a partners homes k (getD a i [])
+    unfolding Sides
+    side-kept =
+        let y : getD a i [] ≡ getD l i [] = ap (λ z. getD z i []) e ∙ done-next (remarked n slot) l i [] h in
+        let s = f i h in
+        rw (q, y) record {
+          few = s .few;
+          is-touched = s .is-touched ∙ touched-reads slot l a (getD l i []) seen;
+          partner = λ t. s .partner t ∙ counterpart-reads l a (getD l i []) seen;
+        }
 
-  pub other-kept : (numbers : List ℕ) → Others slot l numbers → i < length l → {k : ℕ} → k ≡ getD numbers i 0 → Other slot a k (getD a i [])
-  unfolding Others Other
-  other-kept numbers f h q =
-      let y : getD a i [] ≡ getD l i [] = ap (λ k. getD k i []) e ∙ done-next (remarked n slot) l i [] h in
-      rw (q, y) (λ s o. f i h s o ∙ has-reads slot (pair (getD l i [])) l a seen)
+    next : {b : List Block} → b ≡ set a i (remarked n slot a (getD a i [])) → b ≡ done (remarked n slot) l (i + 1)
+    next w = done-more view (remarked n slot) (remarked-keeps n slot) (remarked-reads n slot) l i [] h a _ e w
+
+    -- written if it is touched, and left else
+    module _ {r : Bool} {y : Block} (o : y ≡ getD a i []) (u : r ≡ touchedBy k y) where
+      pub marked-more : r ≡ true → {b : List Block} → b ≡ set a i (withMark (markIn n a (getD a i [])) (getD a i [])) → b ≡ done (remarked n slot) l (i + 1)
+      unfolding remarked
+      marked-more t w = next (w ∙ ap (set a i) (sym (rw (← side-kept .is-touched, ← rw o at u, t))))
+
+      pub left-more : r ≡ false → a ≡ done (remarked n slot) l (i + 1)
+      unfolding remarked
+      left-more t = next (sym (rw (← side-kept .is-touched, ← rw o at u, t) (set-getD a i [])))

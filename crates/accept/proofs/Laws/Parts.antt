@@ -1,5 +1,5 @@
 -- A book's slots, of which the phases borrow the first ones: what comes back is what the definition says of all slots.
-use Rattle.laws.specs.Kit.{_≡_, cond, List, _++_, map, ℕ, _+_, _*_, _/_, _≤_, arith, length, take, drop, length-append, length-drop, length-take-le, is}
+use Rattle.laws.specs.Kit.{_≡_, ap, _∙_, cond, List, _++_, map, ℕ, _+_, _*_, _/_, _≤_, arith, length, take, drop, length-append, length-drop, length-take-le, is}
 use Rattle.laws.specs.Lists.{until}
 use Rattle.laws.specs.Lists.Keep.{until-length, until-take}
 use Rattle.laws.specs.Cut.{cut}
@@ -7,12 +7,13 @@ use Rattle.laws.specs.Cut.Laws.{cut-length}
 use Rattle.laws.specs.InPlace.{over}
 use Rattle.paper.specs.Layout.{Bytes, Block}
 use Rattle.paper.specs.Book.{isFree}
-use Rattle.paper.specs.Acceptance.{renewed, remarked, usedAfter}
+use Rattle.paper.specs.Acceptance.{renewed, placed, remarked, usedAfter}
+use Rattle.paper.specs.Looks.{visited}
 use Rattle.index.specs.Handed.{Handed}
 use Rattle.accept.specs.Fits.{Placing}
-use Rattle.accept.specs.Steps.{Laid, senderIfNew, addedTo, Numbers, Others}
+use Rattle.accept.specs.Steps.{Laid, senderIfNew, addedTo, Numbers, Housed}
 use Rattle.slots.proofs.Laws.Lent.{cut-first, cut-lent-first}
-use Rattle.accept.proofs.Laws.Phases.{room, used-numbers, placed-others, three}
+use Rattle.accept.proofs.Laws.Phases.{room, used-numbers, first-placed, placed-housed, three}
 
 -- ---- the phases over bytes: b are the slots, d the message's series
 
@@ -56,11 +57,17 @@ module _ (n : ℕ) (b : Bytes) (h : Block) (d : Bytes) (p : Placing n (length (c
         renewed-is : cut 512 (r1 ++ drop (512 * u) b1) ≡ map (renewed slot h (cut 512 d)) (take u (cut 512 b1)) ++ drop u (cut 512 b1)
         renewed-is = let w = used-fits .0 in cut-lent-first (map (renewed slot h (cut 512 d))) b1 u r1 (omega arith) z2 f1
 
-        pub remark-others : Others slot (cut 512 (take (512 * next) (r1 ++ drop (512 * u) b1))) numbers
-        remark-others =
+        pub remark-housed : Housed slot (cut 512 (take (512 * next) (r1 ++ drop (512 * u) b1))) (cut 512 d)
+        remark-housed =
             let v = next-fits in
             rw (cut-first (r1 ++ drop (512 * u) b1) next (omega (arith, after-length)))
-            (placed-others n (cut 512 b) _ h (cut 512 d) p u known places numbers f first-blocks slot es (cut 512 b1) next laid (cut 512 (r1 ++ drop (512 * u) b1)) renewed-is)
+            (placed-housed n (cut 512 b) _ h (cut 512 d) p u known places numbers f first-blocks slot es (cut 512 b1) next laid (cut 512 (r1 ++ drop (512 * u) b1)) renewed-is)
+
+        pub looks-told : {looks : ℕ} → looks ≡ length (visited (cut 512 (take (512 * next) (r1 ++ drop (512 * u) b1)))) → looks ≡ length (visited (placed (until isFree (cut 512 b)) h (cut 512 d)))
+        looks-told e =
+            let v = next-fits in
+            e ∙ ap (λ l. length (visited l)) (cut-first (r1 ++ drop (512 * u) b1) next (omega (arith, after-length))
+            ∙ first-placed n (cut 512 b) _ h (cut 512 d) p u known places numbers f first-blocks slot es (cut 512 b1) next laid (cut 512 (r1 ++ drop (512 * u) b1)) renewed-is)
 
         module _ (r2 : Bytes) (z3 : length r2 ≡ 512 * next)
             (f2 : cut 512 r2 ≡ map (remarked n slot (cut 512 (take (512 * next) (r1 ++ drop (512 * u) b1)))) (cut 512 (take (512 * next) (r1 ++ drop (512 * u) b1)))) where

@@ -10,10 +10,10 @@ use Rattle.paper.specs.Rules.{isNew}
 use Rattle.paper.specs.Acceptance.{slotFor, senderKept, renewed, fresh, placed, remarked, usedAfter}
 use Rattle.index.specs.Handed.{Handed}
 use Rattle.accept.specs.Fits.{Placing}
-use Rattle.accept.specs.Steps.{Laid, senderIfNew, addedTo, Numbers, Others}
+use Rattle.accept.specs.Steps.{Laid, senderIfNew, addedTo, Numbers, Housed}
 use Rattle.accept.proofs.Laws.Adding.{all-new}
 use Rattle.accept.proofs.Laws.Renewing.{numbers-found}
-use Rattle.accept.proofs.Laws.Touching.{others}
+use Rattle.accept.proofs.Laws.Touching.{housed}
 
 -- ---- the sender's slot, as the code finds it
 
@@ -79,11 +79,11 @@ module _ (n : ℕ) (l us : List Block) (h : Block) (series : List Block) (p : Pl
           e2 ∙ ap₂ (λ a b. map (renewed a h series) b ++ drop u l1) slot-is first-used ∙ ap (λ r. map (renewed (slotFor us (sender h)) h series) us ++ r) k
           ∙ sym (append-assoc (map (renewed (slotFor us (sender h)) h series) us) (fresh us h series) (drop next l))
 
-      first-placed : take next l2 ≡ placed us h series
+      pub first-placed : take next l2 ≡ placed us h series
       first-placed = ap (take next) two ∙ take-at (placed us h series) (drop next l) next (sym next-is)
 
-      pub placed-others : Others slot (take next l2) numbers
-      placed-others = rw (slot-is, first-placed) (others n (length l) us h series p numbers (numbers-found us series numbers (p .series-slot) (d .sent)))
+      pub placed-housed : Housed slot (take next l2) series
+      placed-housed = rw (slot-is, first-placed) (housed n (length l) us h series p)
 
       module _ (l3 : List Block) (e3 : l3 ≡ map (remarked n slot (take next l2)) (take next l2) ++ drop next l2) where
         pub three : l3 ≡ over (usedAfter n us h series) l

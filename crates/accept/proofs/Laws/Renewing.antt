@@ -17,12 +17,12 @@ with-pair : (b y : Block) → isSeriesOf 0 y ≡ true → ownWith 0 Pair (keyOf 
 unfolding ownWith keyOf pairIs _and_
 with-pair b y e = rw e
 
+pub number-found : (b : Block) (series : List Block) → All (λ y. isSeriesOf 0 y ≡ true) series → place (ownWith 0 Pair (keyOf Pair b)) series ≡ place (pairIs (pair b)) series
+number-found b series h = place-agree _ _ series (all-imply (λ y. isSeriesOf 0 y ≡ true) (λ y. ownWith 0 Pair (keyOf Pair b) y ≡ pairIs (pair b) y) (with-pair b) series h)
+
 pub numbers-found : (us series : List Block) (numbers : List ℕ) → All (λ y. isSeriesOf 0 y ≡ true) series → Found 0 Pair series us numbers → Numbers us series numbers
 unfolding Numbers
-numbers-found us series numbers h f k c =
-    f .each k c
-    ∙ place-agree (ownWith 0 Pair (keyOf Pair (getD us k []))) (pairIs (pair (getD us k []))) series
-    (all-imply (λ y. isSeriesOf 0 y ≡ true) (λ y. ownWith 0 Pair (keyOf Pair (getD us k [])) y ≡ pairIs (pair (getD us k [])) y) (with-pair (getD us k [])) series h)
+numbers-found us series numbers h f k c = f .each k c ∙ number-found (getD us k []) series h
 
 -- block i is not yet renewed where those before it are: l are the blocks, a what the first i of them have become
 pub number-of : (f : Block → Block) (l series : List Block) (numbers : List ℕ) → Numbers l series numbers → (i : ℕ) → i < length l → (a : List Block) → a ≡ done (λ r. f) l i

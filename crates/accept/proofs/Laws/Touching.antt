@@ -1,19 +1,24 @@
--- After an acceptance the sender's series are those of its message. So the other side of a trade is told by its number in the message, which it had
--- before: a block renewed keeps its pair, and the blocks added are all the sender's.
-use Rattle.laws.specs.Kit.{_≡_, sym, ap, _∙_, true, List, [], _++_, map, ℕ, _+_, _-_, _≤_, _<_, arith, length, getD, length-append, length-map, List·getD-append, getD-append-add, neg, is, less, split, less-yes, less-no}
+-- After an acceptance the sender's series are those of its message. So both sides of a trade are told by their number in the message: the sender's series has for its partner
+-- what the looks have found, and the other side has that series.
+use Rattle.laws.specs.Kit.{_≡_, refl, sym, ap, _∙_, Bool, true, false, List, [], ℕ, _+_, _-_, _≤_, _<_, arith, length, take, getD, getD-take, _and_, _or_, neg, is, split, clash, and-left, and-right, and-both, is-yes, is-no, is-equal}
+use Rattle.laws.specs.Tests.Laws.{neg-yes}
 use Rattle.laws.specs.Lists.{place, has}
-use Rattle.laws.specs.Lists.Each.{all-getD-inside, getD-map}
-use Rattle.laws.specs.Lists.Search.{place-is-not-0, has-viewed}
+use Rattle.laws.specs.Lists.Each.{all-getD-inside}
+use Rattle.laws.specs.Lists.Search.{has-no-all, place-is-not-0, place-length, has-viewed}
 use Rattle.paper.specs.Layout.{Bytes, Block, sender, sendersSlot, pair, quantities}
 use Rattle.paper.specs.Book.{isSeries, pairIs, isSeriesOfPair}
-use Rattle.paper.specs.Acceptance.{slotFor, renewed, fresh, placed}
+use Rattle.paper.specs.Marks.{counterpartSlot}
+use Rattle.paper.specs.Acceptance.{slotFor, placed, touched}
+use Rattle.paper.specs.Looks.{found}
 use Rattle.facts.specs.Layout.{quantities-with-senders-slot}
-use Rattle.facts.specs.Book.{series-kind}
-use Rattle.facts.specs.Pairs.{viewFound}
-use Rattle.facts.specs.Renewal.{Shape, slot-for-few, renewed-keeps, fresh-slots, placed-length}
+use Rattle.facts.specs.Pairs.{viewFound, pair-is-equal}
+use Rattle.facts.specs.Renewal.{Shape, slot-for-few, placed-length}
+use Rattle.facts.specs.Senders.{Owner, Owned, owned-placed}
 use Rattle.facts.specs.Stored.{held-own}
+use Rattle.facts.specs.Looks.{sent-inside}
+use Rattle.facts.specs.Partners.{Homes, own-partner, other-partner}
 use Rattle.accept.specs.Fits.{Placing}
-use Rattle.accept.specs.Steps.{Numbers, Other, Others}
+use Rattle.accept.specs.Steps.{Numbers, Housed, touchedBy, partnerBy, Side, Sides}
 
 module _ (n many : ℕ) (us : List Block) (h : Block) (series : List Block) (p : Placing n many us h series) where
   abbrev home : ℕ
@@ -32,42 +37,60 @@ module _ (n many : ℕ) (us : List Block) (h : Block) (series : List Block) (p :
   unfolding viewFound
   sender-has q = has-viewed quantities (isSeriesOfPair home q) (pairIs q) (placed us h series) series (held-own us h series shape (p .own) (p .present) quantities quantities-with-senders-slot q)
 
-  -- a stored block has its number, and a new one is the sender's own
-  stored-other : (b : Block) {k : ℕ} → k ≡ place (pairIs (pair b)) series → Other home (placed us h series) k (renewed home h series b)
-  unfolding Other
-  stored-other b e s o =
-      let k = renewed-keeps us h series shape in
-      ap (λ k. neg (is k 0)) e ∙ place-is-not-0 (pairIs (pair b)) series ∙ sym (sender-has (pair b))
-      ∙ ap (λ q. has (isSeriesOfPair home q) (placed us h series)) (sym (k .pairs b (sym (k .series b) ∙ s)))
+  pub housed : Housed home (placed us h series) series
+  housed = record {
+    sent = record { few = p .series-few; slots = p .series-slot; distinct = p .series-distinct };
+    same-pairs = sender-has;
+    owners = owned-placed us h series shape (p .owners) (p .series-parties);
+  }
 
-  new-other : (l : List Block) (k : ℕ) (y : Block) → (isSeries y ≡ true → sendersSlot y ≡ home) → Other home l k y
-  unfolding Other
-  new-other l k y f s o = absurd (o (f s))
+-- ---- the sides of a trade, by what the looks have found
 
-  module _ (k : ℕ) where
-    abbrev first : List Block
-    first = map (renewed home h series) us
+-- l is a list that has a block y at place k
+has-at : (q : Block → Bool) (l : List Block) (k : ℕ) → k < length l → q (getD l k []) ≡ true → has q l ≡ true
+has-at q l k h e = split (has q l) (λ t. t) (λ t. clash e (all-getD-inside (λ x. q x ≡ false) l k [] h (has-no-all q l t)))
 
-    abbrev block : Block
-    block = getD (first ++ fresh us h series) k []
+module _ (own : ℕ) (l series : List Block) (s : Housed own l series) (partners homes numbers : List ℕ) (f : take (length series) partners ≡ found l series own)
+    (g : Homes own l series (length l) homes) (c : Numbers l series numbers) where
+  module _ (k : ℕ) (h : k < length l) where
+    abbrev y : Block
+    y = getD l k []
 
-    block-stored : k < length us → block ≡ renewed home h series (getD us k [])
-    block-stored i = List·getD-append first (fresh us h series) [] k (omega (arith, length-map us (renewed home h series))) ∙ getD-map (renewed home h series) us k [] [] i
+    abbrev number : ℕ
+    number = getD numbers k 0
 
-    block-new : length us ≤ k → block ≡ getD (fresh us h series) (k - length us) []
-    block-new i =
-        let e : k ≡ length first + (k - length us) = omega (arith, length-map us (renewed home h series)) in
-        ap (λ j. getD (first ++ fresh us h series) j []) e ∙ getD-append-add first (fresh us h series) (k - length us) []
+    number-is : number ≡ place (pairIs (pair y)) series
+    unfolding Numbers
+    number-is = c k h
 
-    inside : k < length (first ++ fresh us h series) → length us ≤ k → k - length us < length (fresh us h series)
-    inside c i = omega (arith, length-append first (fresh us h series), length-map us (renewed home h series))
+    in-message : neg (is number 0) ≡ has (isSeriesOfPair own (pair y)) l
+    in-message = ap (λ z. neg (is z 0)) number-is ∙ place-is-not-0 (pairIs (pair y)) series ∙ sym (s .same-pairs (pair y))
 
-  pub others : (numbers : List ℕ) → Numbers us series numbers → Others home (placed us h series) numbers
-  unfolding Others Numbers placed
-  others numbers f k c = split (less k (length us))
-      (λ t.
-      let i : k < length us = less-yes k (length us) t in
-      rw (block-stored k i) (stored-other (getD us k []) (f k i)))
-      (λ t.
-      let i : length us ≤ k = less-no k (length us) t in
-      rw (block-new k i) (new-other _ _ _ (all-getD-inside _ (fresh us h series) (k - length us) [] (inside k c i) (fresh-slots us h series shape))))
+    own-there : isSeries y ≡ true → sendersSlot y ≡ own → has (isSeriesOfPair own (pair y)) l ≡ true
+    unfolding isSeriesOfPair
+    own-there t o = has-at (isSeriesOfPair own (pair y)) l k h (and-both _ _ (and-both _ _ t (is-equal _ _ o)) (pair-is-equal _ _ refl))
+
+    side-touched : touchedBy number y ≡ touched own l y
+    unfolding touchedBy touched _and_ _or_
+    side-touched = split (isSeries y)
+        (λ t. split (is (sendersSlot y) own) (λ u. rw (t, u, in-message) (own-there t (is-yes _ _ u))) (λ u. rw (t, u) in-message))
+        (λ t. rw t)
+
+    side-partner : touchedBy number y ≡ true → partnerBy own number partners homes y ≡ counterpartSlot l y
+    unfolding touchedBy partnerBy Owned
+    side-partner t =
+        let q : isSeries y ≡ true = and-left _ _ t in
+        let there : has (isSeriesOfPair own (pair y)) l ≡ true = sym in-message ∙ and-right _ _ t in
+        let j : ℕ = number - 1 in
+        let e : place (pairIs (pair y)) series ≡ j + 1 = omega (arith, number-is, is-no number 0 (neg-yes _ (and-right _ _ t))) in
+        split (is (sendersSlot y) own)
+        (λ u. rw u (sym (getD-take (length series) partners j 0 (sent-inside series (pair y) j e)) ∙ ap (λ z. getD z j 0) f ∙ own-partner l series own j y (is-yes _ _ u) e))
+        (λ u. rw u (other-partner l series own j (s .owners) y (all-getD-inside (λ x. isSeries x ≡ true → Owner l x) l k [] h (s .owners) q) (is-no _ _ u) there e homes g))
+
+  pub sides-found : Sides own l partners homes numbers
+  unfolding Sides
+  sides-found k h = record {
+    few = let m : length series ≤ 200 = s .sent .few in omega (arith, number-is k h, place-length (pairIs (pair (getD l k []))) series);
+    is-touched = side-touched k h;
+    partner = side-partner k h;
+  }

@@ -1,5 +1,5 @@
 -- A book's slots, lent whole, come back as the phases leave them; its day block stays, and nothing stands behind the slots.
-use Rattle.laws.specs.Kit.{_≡_, sym, ap, _∙_, List, [], _++_, append-assoc, append-nil, ℕ, _+_, _-_, _*_, _/_, _%_, _≤_, arith, length, take, drop, length-take, length-drop, drop-of-length-le, drop-drop}
+use Rattle.laws.specs.Kit.{_≡_, refl, sym, ap, _∙_, List, [], _++_, append-assoc, append-nil, ℕ, _+_, _-_, _*_, _/_, _%_, _≤_, arith, length, take, drop, length-take, length-drop, drop-of-length-le, drop-drop}
 use Rattle.laws.specs.Lists.{until}
 use Rattle.laws.specs.Bytes.{number, value}
 use Rattle.laws.specs.Bytes.Laws.{part-take}
@@ -10,7 +10,8 @@ use Rattle.laws.specs.InPlace.{over}
 use Rattle.paper.specs.Layout.{Bytes, Block, nOf}
 use Rattle.paper.specs.Book.{dayBlock, slots, isFree, used}
 use Rattle.paper.specs.Message.{headOf, seriesOf}
-use Rattle.paper.specs.Acceptance.{usedAfter, accepted}
+use Rattle.paper.specs.Acceptance.{placed, usedAfter, accepted}
+use Rattle.paper.specs.Looks.{visited}
 use Rattle.index.specs.Handed.{Handed}
 use Rattle.accept.specs.Fits.{Placing, Fits}
 
@@ -36,6 +37,12 @@ pub lent-handed : (b m : Bytes) (usedCount known : ℕ) (places numbers : List �
     → Handed (until isFree (cut 512 (take (length b - 512) (drop 512 b)))) (take 512 m) (cut 512 (take (length m - 512) (drop 512 m))) usedCount known places numbers
 unfolding slots used headOf seriesOf
 lent-handed b m usedCount known places numbers f = rw (rest-slice 512 b, rest-slice 512 m) f
+
+pub lent-looks : (b m : Bytes) (looked : ℕ)
+    → looked ≡ length (visited (placed (until isFree (cut 512 (take (length b - 512) (drop 512 b)))) (take 512 m) (cut 512 (take (length m - 512) (drop 512 m)))))
+    → looked ≡ length (visited (placed (used b) (headOf m) (seriesOf m)))
+unfolding slots used headOf seriesOf
+lent-looks b m looked e = e ∙ rw (rest-slice 512 b, rest-slice 512 m) refl
 
 module _ (b m : Bytes) (f : Fits b m) where
   pub head-lent : (512 ≡ length (take 512 m)) × (512 ≤ length m)

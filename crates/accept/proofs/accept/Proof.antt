@@ -1,6 +1,6 @@
 -- The day block stays, the slots come back as the acceptance leaves them, and nothing stands behind them.
 use Rattle.laws.specs.Kit.{arith, now}
-use Rattle.accept.proofs.Laws.Whole.{head-lent, lent-placing, lent-handed, lent-accepted}
+use Rattle.accept.proofs.Laws.Whole.{head-lent, lent-placing, lent-handed, lent-accepted, lent-looks}
 use Rattle.accept.proofs.accept.Statement.{statement}
 use Rattle.accept.proofs.accept.Tie as tie
 
@@ -29,8 +29,10 @@ returns : tie.Need-returns
 returns c =
     let i = c .before .before in
     let n = i .before .before .before .before in
-    let a = n .before .before .before .before in
-    lent-accepted (now (a .args .book)) (now (a .args .message)) (a .pre .0) (n .n-of .result) (n .n-of .ensures) (i .accept-into .last .0) (omega arith) (i .accept-into .ensures)
+    let a = n .before .before .before .before in (
+      lent-accepted (now (a .args .book)) (now (a .args .message)) (a .pre .0) (n .n-of .result) (n .n-of .ensures) (i .accept-into .last .0) (omega arith) (i .accept-into .ensures .0),
+      lent-looks (now (a .args .book)) (now (a .args .message)) (i .accept-into .result) (i .accept-into .ensures .1),
+    )
 
 pub accept-spec : {M : Type 1} → statement M
 accept-spec =

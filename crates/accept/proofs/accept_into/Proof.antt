@@ -1,7 +1,7 @@
 -- The phases put together are what the definition says; each part of the slots that is lent comes back as its phase leaves it.
 use Rattle.laws.specs.Kit.{arith, sym, _∙_, _*_, now, length-take-le}
 use Rattle.laws.specs.Cut.Laws.{cut-length}
-use Rattle.accept.proofs.Laws.Parts.{back-length, used-fits, series-short, blocks-room, renew-numbers, remark-others, into-is}
+use Rattle.accept.proofs.Laws.Parts.{back-length, used-fits, series-short, blocks-room, renew-numbers, remark-housed, looks-told, into-is}
 use Rattle.accept.proofs.accept_into.Statement.{statement}
 use Rattle.accept.proofs.accept_into.Tie as tie
 
@@ -68,7 +68,7 @@ remark-all-requires c κs =
     let a = t .before .before .before .before in (
       a .pre .0 .small,
       omega (arith, marked-part c, b .add-blocks .ensures .fits, a .pre .0 .few, cut-length 512 (now (a .args .slots))),
-      remark-others _ (now (a .args .slots)) _ (now (a .args .series)) (a .pre .0) _ _ _ _ (a .pre .1) _ (t .slot-for .ensures) (b .add-blocks .last .0) (b .add-blocks .kept .0) _ (b .add-blocks .ensures .laid)
+      remark-housed _ (now (a .args .slots)) _ (now (a .args .series)) (a .pre .0) _ _ _ _ (a .pre .1) _ (t .slot-for .ensures) (b .add-blocks .last .0) (b .add-blocks .kept .0) _ (b .add-blocks .ensures .laid)
           (r .renew-all .last .0) (r .renew-all .kept .0 ∙ sym (renewed-part p)) (r .renew-all .ensures),
     )
 
@@ -80,9 +80,12 @@ returns c =
     let p = r .before in
     let b = p .before .before .before in
     let t = b .before .before in
-    let a = t .before .before .before .before in
-    into-is _ (now (a .args .slots)) _ (now (a .args .series)) (a .pre .0) _ _ _ _ (a .pre .1) _ (t .slot-for .ensures) (b .add-blocks .last .0) (b .add-blocks .kept .0) _ (b .add-blocks .ensures .laid)
-    (r .renew-all .last .0) (r .renew-all .kept .0 ∙ sym (renewed-part p)) (r .renew-all .ensures) (m .remark-all .last .0) (m .remark-all .kept .0 ∙ sym (marked-part q)) (m .remark-all .ensures)
+    let a = t .before .before .before .before in (
+      into-is _ (now (a .args .slots)) _ (now (a .args .series)) (a .pre .0) _ _ _ _ (a .pre .1) _ (t .slot-for .ensures) (b .add-blocks .last .0) (b .add-blocks .kept .0) _ (b .add-blocks .ensures .laid)
+          (r .renew-all .last .0) (r .renew-all .kept .0 ∙ sym (renewed-part p)) (r .renew-all .ensures) (m .remark-all .last .0) (m .remark-all .kept .0 ∙ sym (marked-part q)) (m .remark-all .ensures .0),
+      looks-told _ (now (a .args .slots)) _ (now (a .args .series)) (a .pre .0) _ _ _ _ (a .pre .1) _ (t .slot-for .ensures) (b .add-blocks .last .0) (b .add-blocks .kept .0) _ (b .add-blocks .ensures .laid)
+          (r .renew-all .last .0) (r .renew-all .kept .0 ∙ sym (renewed-part p)) (r .renew-all .ensures) (m .remark-all .ensures .1),
+    )
 
 pub accept-into-spec : {M : Type 1} → statement M
 accept-into-spec =

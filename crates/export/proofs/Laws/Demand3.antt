@@ -6,11 +6,11 @@ use Rattle.paper.specs.declared.MarkAnswer.{MarkAnswer}
 use Rattle.paper.specs.declared.FinalAnswer.{FinalAnswer}
 use Rattle.paper.specs.declared.PlainRunAnswer.{PlainRunAnswer}
 use Rattle.paper.specs.declared.OpenAnswer.{OpenAnswer}
-use Rattle.paper.specs.declared.Verdict.{Verdict}
+use Rattle.paper.specs.declared.SubmitAnswer.{SubmitAnswer}
 use Rattle.paper.specs.Layout.{Bytes}
 use Rattle.paper.specs.Book.{used}
-use Rattle.paper.specs.Rules.{verdict}
 use Rattle.paper.specs.Acceptance.{submitted}
+use Rattle.paper.specs.Looks.{submitAnswer}
 use Rattle.paper.specs.Opening.{Opening, openNumber, openAnswer, opened}
 use Rattle.paper.specs.Clock.{clockMoved}
 use Rattle.paper.specs.Conversion.{conversionNumber, converted, keptMessages}
@@ -61,11 +61,12 @@ pub clock-kept : (b : Bytes) (minute : ℕ) {c : Bytes} → c ≡ clockMoved b m
 unfolding ClockKeeps
 clock-kept b minute e messages v = kept b e refl (clock-keeps b messages (v .invariant) minute)
 
-counted : (b m : Bytes) (messages : List Bytes) {r : Verdict} → r ≡ verdict b m → messagesAfter b m messages ≡ cond (is (r .number) 0) (messages ++ m ∷ []) messages
-unfolding messagesAfter
+counted : (b m : Bytes) (messages : List Bytes) {r : SubmitAnswer} → r ≡ submitAnswer b m
+    → messagesAfter b m messages ≡ cond (is (r .verdict .number) 0) (messages ++ m ∷ []) messages
+unfolding messagesAfter submitAnswer
 counted b m messages e = rw e
 
-pub submission-kept : (b m : Bytes) {r : Verdict} {c : Bytes} → (r ≡ verdict b m) × (c ≡ submitted b m) → SubmissionKeeps b m (r .number) c
+pub submission-kept : (b m : Bytes) {r : SubmitAnswer} {c : Bytes} → (r ≡ submitAnswer b m) × (c ≡ submitted b m) → SubmissionKeeps b m (r .verdict .number) c
 unfolding SubmissionKeeps
 submission-kept b m e messages v = kept b (e .1) (counted b m messages (e .0)) (submission-keeps b messages (v .invariant) m)
 

@@ -169,6 +169,10 @@ module _ {A B : Type 0} where
     all-swap R xs r (all-imply (λ y. All (λ z. R z y) (x ∷ xs)) (λ y. All (λ z. R z y) xs) (λ y q. q .1) r h),
   )
 
+  pub map-agree : (f g : A → B) → ((x : A) → f x ≡ g x) → (l : List A) → map f l ≡ map g l
+  map-agree f g e [] = refl
+  map-agree f g e (x ∷ xs) = ap₂ _∷_ (e x) (map-agree f g e xs)
+
   pub map-append : (f : A → B) (l r : List A) → map f (l ++ r) ≡ map f l ++ map f r
   map-append f [] r = refl
   map-append f (x ∷ xs) r = ap (λ z. f x ∷ z) (map-append f xs r)

@@ -1,7 +1,7 @@
 -- The first element that passes a test: whether there is one (has), which it is (find), at what place it stands (place).
-use Rattle.laws.specs.Base.{_≡_, refl, sym, ap, _∙_, Bool, true, false, cond, false≢true, true≢false, none, some, Option·map, List, [], _∷_, _++_, map, ℕ, zero, suc, _-_, _≤_, _<_, arith, length, take, getD, take-suc}
+use Rattle.laws.specs.Base.{_≡_, refl, sym, ap, _∙_, Bool, true, false, cond, false≢true, true≢false, none, some, Option·map, List, [], _∷_, _++_, map, ℕ, zero, suc, _+_, _-_, _≤_, _<_, add-one, arith, length, take, getD, length-take-le, take-suc}
 use Rattle.laws.specs.Tests.{_and_, _or_, neg, is, below}
-use Rattle.laws.specs.Tests.Laws.{split, clash, cond-apply, or-left, or-right, or-no, or-false, or-exchange, neg-true, neg-false, neg-and-neg, is-yes, is-no, is-equal, is-other}
+use Rattle.laws.specs.Tests.Laws.{split, clash, cond-apply, or-left, or-right, or-no, or-false, or-exchange, neg-true, neg-false, neg-and-neg, is-yes, is-no, is-equal, is-other, is-same}
 use Rattle.laws.specs.Lists.{further, find, place, nth, has, every, keep, All}
 use Rattle.laws.specs.Lists.Each.{all-imply, all-each, all-find, every-all, nth-getD}
 
@@ -280,3 +280,16 @@ module _ {A B : Type 0} where
           let y = has-yes q r u in
           let z : none ≡ some (view (y .0)) = ap (Option·map view) (sym (has-no-find p l t)) ∙ e ∙ ap (Option·map view) (y .1) in
           let w : true ≡ false = cc in true≢false w
+
+-- ---- a search of one element more
+
+module _ {A : Type 0} (p : A → Bool) (l : List A) (i : ℕ) (d : A) (h : i < length l) where
+  pub place-more : place p (take (i + 1) l) ≡ cond (is (place p (take i l)) 0 and p (getD l i d)) (i + 1) (place p (take i l))
+  unfolding _and_ has
+  place-more =
+      ap (λ k. place p (take k l)) (add-one i) ∙ ap (place p) (take-suc l i d h)
+      ∙ split (has p (take i l))
+      (λ t. place-append-first p (take i l) _ t ∙ sym (rw (is-other (place p (take i l)) 0 (λ z. omega (arith, place-positive p (take i l) t)))))
+      (λ t. split (p (getD l i d))
+      (λ u. place-append-second p (take i l) (getD l i d) [] t u ∙ rw (u, has-no-place p (take i l) t, is-same 0, length-take-le i l (omega arith)) (omega arith))
+      (λ u. place-append-only p (take i l) (getD l i d ∷ []) (or-no _ _ u refl) ∙ rw (u, has-no-place p (take i l) t, is-same 0)))

@@ -3,7 +3,7 @@
 use Rattle.laws.specs.Base.{_≡_, refl, sym, ap, _∙_, Bool, true, false, true≢false, Option, none, some, Option·map, List, [], _∷_, _++_, ℕ, zero, suc, _+_, _≤_, arith, length, length-append}
 use Rattle.laws.specs.Tests.{neg}
 use Rattle.laws.specs.Tests.Laws.{split, clash, and-left, and-right, and-both, neg-yes, neg-true, or-yes-left, or-yes-right}
-use Rattle.laws.specs.Lists.{find, place, nth, apart, All}
+use Rattle.laws.specs.Lists.{further, find, place, nth, apart, All}
 use Rattle.laws.specs.Lists.Same.{same-yes, same-equal}
 use Rattle.laws.specs.Lists.Each.{all-nth, all-imply, all-both, all-find, every-all, all-every}
 use Rattle.laws.specs.Lists.Search.{find-passes, find-sieve, nth-place}
@@ -29,6 +29,18 @@ module _ {A : Type 0} where
       let n : c y x ≡ false = neg-yes _ (all-nth (λ z. neg (c y z) ≡ true) ys (suc k) x (every-all _ ys (and-left _ _ a)) e) in
       let p : q y ≡ false = split (q y) (λ u. clash (g y u) n) (λ u. u) in
       rw p (apart-find c q ys (and-right _ _ a) (suc k) x e t g)
+
+  -- and its place is the one that is found
+  pub apart-place : (c : A → A → Bool) (q : A → Bool) (l : List A) → apart c l ≡ true → (k : ℕ) (x : A) → nth l k ≡ some x → q x ≡ true
+      → ((y : A) → q y ≡ true → c y x ≡ true) → place q l ≡ k
+  unfolding nth apart place further
+  apart-place c q [] a k x e t g = let z : true ≡ false = cc in absurd (true≢false z)
+  apart-place c q (y ∷ ys) a zero x e t g = let z : true ≡ false = cc in absurd (true≢false z)
+  apart-place c q (y ∷ ys) a (suc zero) x e t g = let i : y ≡ x = cc in rw (i, t)
+  apart-place c q (y ∷ ys) a (suc (suc k)) x e t g =
+      let n : c y x ≡ false = neg-yes _ (all-nth (λ z. neg (c y z) ≡ true) ys (suc k) x (every-all _ ys (and-left _ _ a)) e) in
+      let p : q y ≡ false = split (q y) (λ u. clash (g y u) n) (λ u. u) in
+      rw (p, apart-place c q ys (and-right _ _ a) (suc k) x e t g)
 
   apart-find-other : (c : A → A → Bool) (p q : A → Bool) (l : List A) → apart c l ≡ true → (x : A) → find p l ≡ some x → q x ≡ true
       → ((y : A) → q y ≡ true → c y x ≡ true) → find q l ≡ some x

@@ -2,7 +2,7 @@
 -- other block keeps its slot and every byte; and nothing is written before the used slots or behind them.
 use Rattle.laws.specs.Base.{_≡_, refl, sym, ap, _∙_, true, false, some, Option·map, List, _++_, map, ℕ, _+_, _*_, length, drop}
 use Rattle.laws.specs.Tests.{_and_, is}
-use Rattle.laws.specs.Tests.Laws.{split, clash, and-left, and-right, and-both, and-no, or-else, neg-true}
+use Rattle.laws.specs.Tests.Laws.{split, clash, and-left, and-right, and-both, and-no, or-else, is-no}
 use Rattle.laws.specs.Lists.{nth, has}
 use Rattle.laws.specs.Lists.Each.{all-nth, nth-append-left, nth-map}
 use Rattle.laws.specs.Lists.Search.{has-yes, find-passes, find-has-other, has-map-each}
@@ -14,7 +14,7 @@ use Rattle.paper.specs.Acceptance.{fresh, placed, touched, remarked, usedAfter,
 use Rattle.facts.specs.Layout.{part-with-mark-before, part-with-mark-after}
 use Rattle.facts.specs.Book.{series-of-yes}
 use Rattle.facts.specs.Verdict.{Accepts}
-use Rattle.facts.specs.Pairs.{pair-is-equal, of-pair-series, of-pair-slot, of-pair-pair, of-pair-kept}
+use Rattle.facts.specs.Pairs.{counterpart-yes, of-pair-series, of-pair-slot, of-pair-pair, of-pair-kept}
 use Rattle.facts.specs.Renewal.{Shape, shape, renewed-other}
 use Rattle.facts.specs.Remarking.{mark-in-length, remarked-touched, remarked-untouched, remarked-keeps}
 use Rattle.facts.specs.Senders.{owned, own-by-slot-for, slot-after-own}
@@ -34,10 +34,6 @@ touched-pair : (slot : ℕ) (l : List Block) (x : Block) → isSeriesOf slot x �
 unfolding touched isSeriesOf
 touched-pair slot l x o t = let n : is (sendersSlot x) slot ≡ false = and-no _ _ o (and-left _ _ t) in (and-left _ _ t, n, or-else _ _ (and-right _ _ t) n)
 
-counterpart-yes : (slot : ℕ) (p : Bytes) (x : Block) → isSeries x ≡ true → is (sendersSlot x) slot ≡ false → pair x ≡ p → isCounterpart slot p x ≡ true
-unfolding isCounterpart
-counterpart-yes slot p x s n e = and-both _ _ (and-both _ _ s (neg-true _ n)) (pair-is-equal p x e)
-
 module _ (book message : Bytes) (a : Accepts book message) where
   open Acceptance (parts book message) using (us, h, series, slot, again, now, put, after)
 
@@ -55,7 +51,7 @@ module _ (book message : Bytes) (a : Accepts book message) where
       let m : isSeriesOfPair slot (pair x) z ≡ true = find-passes _ after z (r .1) in
       rw (slot-after-own us h series c (nOf (dayBlock book)))
       (find-has-other (isSeriesOfPair slot (pair x)) (λ y. isSeriesOf slot y and isCounterpart slot (pair y) x) after z (r .1)
-      (and-both _ _ (series-of-yes slot z (of-pair-series _ _ z m) (of-pair-slot _ _ z m)) (counterpart-yes slot (pair z) x (q .0) (q .1)
+      (and-both _ _ (series-of-yes slot z (of-pair-series _ _ z m) (of-pair-slot _ _ z m)) (counterpart-yes slot (pair z) x (q .0) (is-no _ _ (q .1))
       (sym (of-pair-pair _ _ z m)))))
 
   module _ (i : ℕ) (x : Block) (there : nth (used book) i ≡ some x)

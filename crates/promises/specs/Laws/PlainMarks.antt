@@ -21,12 +21,12 @@ use Rattle.facts.specs.Pairs.{pair-is-equal, of-pair-yes, of-pair-series, of-pa
 use Rattle.promises.specs.Laws.Marks.{MarksTrue}
 use Rattle.facts.specs.Book.{sender-block-sender}
 use Rattle.facts.specs.Senders.{slot-of-one, Owner, Owned, owned}
+use Rattle.facts.specs.Sides.{sides}
 use Rattle.promises.specs.Laws.SoundApart.{same-series-yes, same-pair-yes}
 use Rattle.promises.specs.Laws.SoundSeries.{partner-in}
 use Rattle.promises.specs.Laws.PlainRun.{true-yes}
 use Rattle.promises.specs.Laws.ById.{apart-find}
 use Rattle.promises.specs.Laws.Invariant.{Invariant, held-plain}
-use Rattle.promises.specs.Laws.Sides.{sides}
 use Rattle.promises.specs.Words.{headContent, plainHeadContent}
 
 -- ---- a series is the one that its sender has under its pair
@@ -39,11 +39,11 @@ found-itself l a slot x e s = apart-find sameSeries (isSeriesOfPair (sendersSlot
 
 -- ---- a mark and the slot in it
 
-slot-in-mark : (n : ℕ) (a q : Bytes) (slot : ℕ) (x : Block) → slot < 65536 → mark x ≡ markOf n a (some q) slot → partner x ≡ slot
+pub slot-in-mark : (n : ℕ) (a q : Bytes) (slot : ℕ) (x : Block) → slot < 65536 → mark x ≡ markOf n a (some q) slot → partner x ≡ slot
 unfolding markOf
 slot-in-mark n a q slot x h e = mark-partner x ∙ ap (number 2 2) e ∙ partner-in _ _ slot h
 
-no-slot-in-mark : (n : ℕ) (a : Bytes) (slot : ℕ) (x : Block) → mark x ≡ markOf n a none slot → partner x ≡ 0
+pub no-slot-in-mark : (n : ℕ) (a : Bytes) (slot : ℕ) (x : Block) → mark x ≡ markOf n a none slot → partner x ≡ 0
 unfolding markOf number part value
 no-slot-in-mark n a slot x e = mark-partner x ∙ ap (number 2 2) e
 
