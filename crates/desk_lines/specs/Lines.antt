@@ -81,12 +81,13 @@ conversionLine number =
 unfoldable pub stateText : (differing partner : ℕ) → Bytes
 stateText differing partner = codeText (markCode differing partner) ++ text ", " ++ stateMeaning (stateOfMark differing partner)
 
-unfoldable pub markText : (differing first partner : ℕ) → Bytes
-markText differing first partner =
-    worded (text "differ ") differing ++ worded (text " first ") first ++ worded (text " partner ") partner ++ stateText differing partner
+-- behind a word that leads to the count
+unfoldable pub markText : (word : Bytes) (differing first partner : ℕ) → Bytes
+markText word differing first partner =
+    worded word differing ++ worded (text " first ") first ++ worded (text " partner ") partner ++ stateText differing partner
 
 unfoldable pub markLine : (a : MarkAnswer) → Bytes
-markLine a = telling (a .number) (text ": " ++ markText (a .differ) (a .first .0) (a .partner .0) ++ text "\n")
+markLine a = telling (a .number) (markText (text ": differ ") (a .differ) (a .first .0) (a .partner .0) ++ text "\n")
 
 -- by which rule a final value was chosen
 unfoldable pub chosenText : (rule : Rule) → Bytes
@@ -103,7 +104,7 @@ unfoldable pub plainLine : (a : PlainRunAnswer) → Bytes
 plainLine a = telling (a .number) (plainText (a .holds))
 
 unfoldable pub quantityLine : (r : QuantityRead) → Bytes
-quantityLine r = telling (r .number) (worded (text ": ") (r .kilowatts) ++ text " kW, printed " ++ megawatts (r .kilowatts) ++ text "\n")
+quantityLine r = telling (r .number) (worded (text ": ") (r .kilowatts) ++ (text " kW, printed " ++ megawatts (r .kilowatts)) ++ text "\n")
 
 -- character is the check's number of the code
 unfoldable pub eicLine : (code : Bytes) (character : ℕ) → Bytes
@@ -119,7 +120,7 @@ unfoldable pub nameText : (x : Block) → Bytes
 nameText x = (text ": series " ++ idText (idOf x)) ++ worded (text " version ") (version x) ++ (text " in " ++ inParty x) ++ (text " out " ++ outParty x)
 
 unfoldable pub seriesText : (x : Block) → Bytes
-seriesText x = nameText x ++ text " " ++ markText (differing x) (first x) (partner x)
+seriesText x = nameText x ++ markText (text " differ ") (differing x) (first x) (partner x)
 
 -- number is that of the mark's call, which tells an unsound book from an unknown series
 unfoldable pub blockLine : (number : ℕ) (x : Block) → Bytes

@@ -1,18 +1,19 @@
--- The answer, and the newline of a refusal, else the quantity read and printed again.
-use Rattle.laws.specs.Kit.{arith, refl, is-equal, is-other}
+-- The answer, and nothing behind a refusal, else the quantity read and printed again.
+use Rattle.laws.specs.Kit.{arith, refl}
 use Rattle.paper.specs.Listing.{text}
-use Rattle.desk_lines.specs.Lines.{telling, quantityLine}
+use Rattle.desk_lines.specs.Lines.{quantityLine}
 use Rattle.desk_text.specs.Put.Laws.{then}
+use Rattle.desk_lines.proofs.Laws.{refused, accepted}
 use Rattle.desk_lines.proofs.quantity_line.Statement.{statement}
 use Rattle.desk_lines.proofs.quantity_line.Tie as tie
 
 returns : tie.Need-returns
-unfolding quantityLine telling text
-returns c = rw (is-other _ _ (c .before .before .before .before .if1 .taken)) (then (c .before .before .before .before .before .before .before .before .put-answer-of .ensures) (c .before .before .put-end .ensures))
+unfolding quantityLine
+returns c = refused _ (c .if1 .taken) (c .before .before .before .before .put-telling .ensures)
 
 returns-2 : tie.Need-returns-2
-unfolding quantityLine telling text
-returns-2 c = rw (is-equal _ _ (c .before .before .before .before .before .before .before .before .before .before .before .before .before .before .before .before .before .before .before .if1 .left)) (then (c .before .before .before .before .before .before .before .before .before .before .before .before .before .before .before .before .before .before .before .before .before .before .before .put-answer-of .ensures) (then (then (then (c .before .before .before .before .before .before .before .before .before .before .before .before .before .before .before .put-worded .ensures) (c .before .before .before .before .before .before .before .before .before .before .put .ensures)) (c .before .before .before .before .before .before .put-megawatts .ensures)) (c .before .before .put-end2 .ensures)))
+unfolding quantityLine text
+returns-2 c = accepted _ (c .before .before .before .before .before .before .before .before .before .before .before .before .before .before .before .if1 .left) (c .before .before .before .before .before .before .before .before .before .before .before .before .before .before .before .before .before .before .before .put-telling .ensures) (then (then (c .before .before .before .before .before .before .before .before .before .before .before .put-worded .ensures) (c .before .before .before .before .before .before .put-megawatts .ensures)) (c .before .before .put-end .ensures))
 
 pub quantity-line-spec : {M : Type 1} → statement M
-quantity-line-spec = tie.close (tie.spec (λ c κs. tt) (λ c κs. tt) (λ c. omega arith) returns (λ c. refl) (λ c. omega arith) (λ c κs. tt) (λ c. refl) (λ c κs. tt) (λ c κs. tt) (λ c κs. tt) (λ c. omega arith) returns-2)
+quantity-line-spec = tie.close (tie.spec (λ c κs. tt) (λ c. omega arith) returns (λ c. refl) (λ c. omega arith) (λ c κs. tt) (λ c. refl) (λ c κs. tt) (λ c κs. tt) (λ c. omega arith) returns-2)
