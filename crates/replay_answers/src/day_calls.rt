@@ -13,7 +13,6 @@ use block::numbers::number_2;
 use paper::LESSER;
 use paper::Minute;
 use paper::Rule;
-use paper::Verdict;
 use stream::fields::name;
 use stream::fields::name_end;
 use stream::told::Told;
@@ -60,18 +59,6 @@ fn clock(book: &mut [u8], minute: Minute) -> Told
     )
 }
 
-fn verdict_told(v: Verdict) -> Told
-    ensures { λ r. ⌜ numbersOf r ≡ verdictTold v ⌝ }
-{
-    five(
-        v.number as usize,
-        v.code as usize,
-        v.series,
-        v.position.0,
-        v.character as usize,
-    )
-}
-
 fn submit(book: &mut [u8], message: &[u8]) -> Told
     ensures { λ r. ⌜ (numbersOf r ≡ submitTold (submitAnswer (now (book .entry)) (now (message .entry)))) × (now (book .exit) ≡ submitted (now (book .entry)) (now (message .entry))) ⌝ }
 {
@@ -90,7 +77,14 @@ fn submit(book: &mut [u8], message: &[u8]) -> Told
 pub fn judge(book: &[u8], message: &[u8]) -> Told
     ensures { λ r. ⌜ numbersOf r ≡ verdictTold (verdict (now (book .entry)) (now (message .entry))) ⌝ }
 {
-    verdict_told(judge::verdict(book, message))
+    let v = judge::verdict(book, message);
+    five(
+        v.number as usize,
+        v.code as usize,
+        v.series,
+        v.position.0,
+        v.character as usize,
+    )
 }
 
 fn convert(book: &mut [u8]) -> Told
