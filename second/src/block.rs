@@ -13,6 +13,8 @@ pub type Field = [u8; 16];
 pub const KIND_SENDER: u8 = 1;
 pub const KIND_SERIES: u8 = 2;
 pub const KIND_DAY: u8 = 3;
+/// A right to capacity; it has the layout of a series, its holder standing as both parties.
+pub const KIND_RIGHT: u8 = 4;
 
 // Where the fields stand. Some offsets serve two kinds of block under different names.
 pub const KIND: usize = 0;
@@ -34,6 +36,8 @@ pub const RECEIVER: usize = 40;
 pub const OUT_AREA: usize = 40;
 pub const DAY_IN_SENDER: usize = 56;
 pub const IN_PARTY: usize = 56;
+/// Of a right, whose holder is its out party too.
+pub const HOLDER: usize = 56;
 pub const OUT_PARTY: usize = 72;
 pub const AGREEMENT: usize = 88;
 pub const MARK: usize = 104;
@@ -55,8 +59,18 @@ pub const HIGHEST_QUANTITY: u32 = 9_999_999;
 pub const MOST_SERIES: u16 = 200;
 /// 200 series of the highest quantity, all on one side.
 pub const HIGHEST_NET: i32 = 1_999_999_800;
-/// A02, the only business type an internal trade may carry.
+/// A02, the business type of an internal trade.
 pub const INTERNAL_TRADE: u8 = 2;
+/// A03, an external schedule on capacity, which names a right; rights have this type too.
+pub const WITH_CAPACITY: u8 = 3;
+/// A06, an external schedule without capacity.
+pub const WITHOUT_CAPACITY: u8 = 6;
+/// A contract type of rights and of series on them is 1 to this.
+pub const HIGHEST_CONTRACT_TYPE: u8 = 99;
+
+/// What a sender's series is known by beside its id: business type, contract type, areas, parties and capacity
+/// agreement, as they stand.
+pub type Key = [u8; 82];
 
 /// A mark as a series block keeps it. A series that agrees with its counterpart and one that has none both
 /// have the count 0; the partner tells them apart.
@@ -167,6 +181,32 @@ pub fn put_field(block: &mut Block, at: usize, value: &Field) {
 /// In party and out party, in this order.
 pub fn pair(series: &Block) -> (Field, Field) {
     (field(series, IN_PARTY), field(series, OUT_PARTY))
+}
+
+pub fn key(series: &Block) -> Key {
+    let mut key = [0; 82];
+    key[..2].copy_from_slice(&series[BUSINESS_TYPE..SENDER_SLOT]);
+    key[2..].copy_from_slice(&series[IN_AREA..MARK]);
+    key
+}
+
+/// Whether this is a series of an internal trade; marks and finals pair no other.
+pub fn is_internal(series: &Block) -> bool {
+    series[BUSINESS_TYPE] == INTERNAL_TRADE
+}
+
+/// Whether the series is an external schedule, one area of which is another's.
+pub fn is_external(series: &Block) -> bool {
+    matches!(series[BUSINESS_TYPE], WITH_CAPACITY | WITHOUT_CAPACITY)
+}
+
+/// Whether a series counts up in its sender's net: what the sender buys, or what comes into the book's area.
+pub fn counts_up(series: &Block, sender: &Field, area: &Field) -> bool {
+    if is_external(series) {
+        field(series, IN_AREA) == *area
+    } else {
+        field(series, IN_PARTY) == *sender
+    }
 }
 
 /// The hundred quantities, as numbers without a sign.

@@ -74,6 +74,20 @@ impl<'book> SoundBook<'book> {
         self.of_kind(KIND_SERIES)
     }
 
+    pub fn rights(&self) -> impl Iterator<Item = (Slot, &'book Block)> {
+        self.of_kind(KIND_RIGHT)
+    }
+
+    /// The rights that somebody holds, by ascending slot.
+    pub fn rights_of(&self, holder: &Field) -> Vec<(Slot, &'book Block)> {
+        self.rights().filter(|(_, right)| field(right, HOLDER) == *holder).collect()
+    }
+
+    /// The book's area.
+    pub fn area(&self) -> Field {
+        field(self.day(), AREA)
+    }
+
     /// The slot of the sender with this EIC.
     pub fn sender_slot(&self, eic: &[u8]) -> Option<Slot> {
         self.senders().find(|(_, block)| field(block, SENDER) == *eic).map(|(slot, _)| slot)

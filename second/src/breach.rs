@@ -7,7 +7,8 @@
 use crate::block::*;
 use crate::clause::cases;
 use crate::counts::{LATEST_MINUTE, LONGEST_LEAD};
-use crate::crafted::{filing, lawful_mark, sealed, slots_of};
+use crate::crafted::{filing, lawful_mark, put_right, sealed, slots_of};
+use crate::external::{self, foreign_area, put_areas, put_limits, turn_round, RightFault};
 use crate::names;
 use crate::random::Random;
 use crate::sound::{SoundClause, MOST_BLOCKS};
@@ -22,6 +23,7 @@ cases! {
         CheckOfDay "check of the day block",
         CheckOfSender "check of a sender block",
         CheckOfSeries "check of a series block",
+        CheckOfRight "check of a right",
         CheckOfFree "check bytes in a free slot",
         DayKind "day block: kind",
         NBelow "day block: n below 92",
@@ -62,35 +64,69 @@ cases! {
         SenderN "sender: n",
         SeriesN "series: n",
         SenderDay "sender: day",
-        InArea "series: in area",
-        OutArea "series: out area",
+        InArea "internal series: in area",
+        OutArea "internal series: out area",
+        BothOurs "external series: both areas ours",
+        NoneOurs "external series: no area ours",
+        ExternalInArea "external series: in area not an EIC",
+        ExternalOutArea "external series: out area not an EIC",
         SenderReceiver "sender: receiver",
-        ContractType "series: contract type",
-        Agreement "series: capacity agreement",
+        ContractType "internal series: contract type",
+        Agreement "internal series: capacity agreement",
+        NoCapacityContract "A06: contract type",
+        NoCapacityAgreement "A06: capacity agreement",
+        CapacityContractZero "A03: contract type 0",
+        CapacityContractAbove "A03: contract type above 99",
+        CapacityAgreement "A03: capacity agreement malformed",
         BusinessType "series: business type",
         SenderEic "sender: not an EIC, in its series neither",
         SenderHyphen "sender: ends in a hyphen, in its series too",
         SenderTwice "two senders with one EIC",
         SenderSlotZero "series: sender's slot 0",
         SenderSlotOfSeries "series: sender's slot is a series'",
+        SenderSlotOfRight "series: sender's slot is a right's",
         SenderSlotFree "series: sender's slot is free",
         SenderSlotBeyond "series: sender's slot beyond the book",
-        PartiesEqual "series: both parties equal",
+        PartiesEqual "internal series: both parties equal",
         InParty "series: in party not an EIC",
         InPartyHyphen "series: in party ends in a hyphen",
         OutParty "series: out party not an EIC",
         OutPartyHyphen "series: out party ends in a hyphen",
-        NeitherSender "series: neither party is its sender",
+        ExternalInParty "external series: in party not an EIC",
+        ExternalOutParty "external series: out party not an EIC",
+        NeitherSender "internal series: neither party is its sender",
+        ExternalNeither "external series: neither party is its sender",
         SeriesIdTwice "a sender's series id twice",
-        PairTwice "a sender's pair twice",
+        KeyTwice "a sender's key twice, internal",
+        ExternalKeyTwice "a sender's key twice, external",
         CountTooHigh "sender: count higher than that of its series",
         CountTooLow "sender: count lower than that of its series",
         DifferNextToN "series: byte 104 is n + 1",
         DifferBeyond "series: byte 104 above n + 1",
         First "series: first above n",
         PartnerSender "series: partner is a sender's slot",
+        PartnerRight "series: partner is a right's slot",
         PartnerFree "series: partner is a free slot",
         PartnerBeyond "series: partner beyond the book",
+        RightN "right: n",
+        RightVersion "right: version",
+        RightType "right: business type",
+        RightContractZero "right: contract type 0",
+        RightContractAbove "right: contract type above 99",
+        RightSlot "right: bytes 6-7",
+        RightId "right: id",
+        RightBothOurs "right: both areas ours",
+        RightNoneOurs "right: no area ours",
+        RightInArea "right: in area not an EIC",
+        RightOutArea "right: out area not an EIC",
+        RightParties "right: two parties",
+        RightHolder "right: holder not an EIC",
+        RightAgreement "right: capacity agreement malformed",
+        RightMark "right: mark",
+        LimitTooHigh "right: limit above 9,999,999",
+        LimitTopBit "right: limit with its top bit set",
+        LimitAboveN "right: limit at a position above n",
+        RightTwice "two rights alike but for their limits",
     }
 }
 
@@ -101,7 +137,8 @@ impl Breach {
         match self {
             Breach::PartOfBlock => Clause::WholeBlocks,
             Breach::NoBlock | Breach::OneBlock => Clause::BlockCount,
-            Breach::CheckOfDay | Breach::CheckOfSender | Breach::CheckOfSeries | Breach::CheckOfFree => Clause::Check,
+            Breach::CheckOfDay | Breach::CheckOfSender | Breach::CheckOfSeries => Clause::Check,
+            Breach::CheckOfRight | Breach::CheckOfFree => Clause::Check,
             Breach::DayKind => Clause::DayKind,
             Breach::NBelow | Breach::NBetween | Breach::NAbove => Clause::DayN,
             Breach::Lead => Clause::DayLead,
@@ -128,31 +165,77 @@ impl Breach {
             Breach::SenderDay => Clause::SenderDay,
             Breach::InArea => Clause::InArea,
             Breach::OutArea => Clause::OutArea,
+            Breach::BothOurs => Clause::BothOurs,
+            Breach::NoneOurs => Clause::NoneOurs,
+            Breach::ExternalInArea | Breach::ExternalOutArea => Clause::OtherArea,
             Breach::SenderReceiver => Clause::SenderReceiver,
-            Breach::ContractType => Clause::ContractType,
-            Breach::Agreement => Clause::Agreement,
+            Breach::ContractType | Breach::NoCapacityContract => Clause::ContractType,
+            Breach::Agreement | Breach::NoCapacityAgreement => Clause::Agreement,
+            Breach::CapacityContractZero | Breach::CapacityContractAbove => Clause::CapacityContract,
+            Breach::CapacityAgreement => Clause::CapacityAgreement,
             Breach::BusinessType => Clause::BusinessType,
             Breach::SenderEic | Breach::SenderHyphen => Clause::SenderEic,
             Breach::SenderTwice => Clause::SenderTwice,
-            Breach::SenderSlotZero | Breach::SenderSlotOfSeries | Breach::SenderSlotFree | Breach::SenderSlotBeyond => {
-                Clause::SenderSlot
-            }
+            Breach::SenderSlotZero | Breach::SenderSlotOfSeries | Breach::SenderSlotOfRight => Clause::SenderSlot,
+            Breach::SenderSlotFree | Breach::SenderSlotBeyond => Clause::SenderSlot,
             Breach::PartiesEqual => Clause::PartiesEqual,
-            Breach::InParty | Breach::InPartyHyphen => Clause::InParty,
-            Breach::OutParty | Breach::OutPartyHyphen => Clause::OutParty,
-            Breach::NeitherSender => Clause::NeitherSender,
+            Breach::InParty | Breach::InPartyHyphen | Breach::ExternalInParty => Clause::InParty,
+            Breach::OutParty | Breach::OutPartyHyphen | Breach::ExternalOutParty => Clause::OutParty,
+            Breach::NeitherSender | Breach::ExternalNeither => Clause::NeitherSender,
             Breach::SeriesIdTwice => Clause::SeriesIdTwice,
-            Breach::PairTwice => Clause::PairTwice,
+            Breach::KeyTwice | Breach::ExternalKeyTwice => Clause::KeyTwice,
             Breach::CountTooHigh | Breach::CountTooLow => Clause::CountWrong,
             Breach::DifferNextToN | Breach::DifferBeyond => Clause::Byte104,
             Breach::First => Clause::First,
-            Breach::PartnerSender | Breach::PartnerFree | Breach::PartnerBeyond => Clause::Partner,
+            Breach::PartnerSender | Breach::PartnerRight => Clause::Partner,
+            Breach::PartnerFree | Breach::PartnerBeyond => Clause::Partner,
+            Breach::RightN => Clause::RightN,
+            Breach::RightVersion => Clause::RightVersion,
+            Breach::RightType => Clause::RightType,
+            Breach::RightContractZero | Breach::RightContractAbove => Clause::RightContract,
+            Breach::RightSlot => Clause::RightSlot,
+            Breach::RightId => Clause::RightId,
+            Breach::RightBothOurs => Clause::RightBothOurs,
+            Breach::RightNoneOurs => Clause::RightNoneOurs,
+            Breach::RightInArea | Breach::RightOutArea => Clause::RightOtherArea,
+            Breach::RightParties => Clause::RightParties,
+            Breach::RightHolder => Clause::RightHolder,
+            Breach::RightAgreement => Clause::RightAgreement,
+            Breach::RightMark => Clause::RightMark,
+            Breach::LimitTooHigh | Breach::LimitTopBit => Clause::LimitRange,
+            Breach::LimitAboveN => Clause::LimitAboveN,
+            Breach::RightTwice => Clause::RightTwice,
         }
+    }
+
+    /// The fault of a right that makes the breach, if one does.
+    fn right_fault(self) -> Option<RightFault> {
+        Some(match self {
+            Breach::RightN => RightFault::N,
+            Breach::RightVersion => RightFault::Version,
+            Breach::RightType => RightFault::BusinessType,
+            Breach::RightContractZero => RightFault::ContractZero,
+            Breach::RightContractAbove => RightFault::ContractAbove,
+            Breach::RightSlot => RightFault::SenderSlot,
+            Breach::RightId => RightFault::Id,
+            Breach::RightBothOurs => RightFault::BothOurs,
+            Breach::RightNoneOurs => RightFault::NoneOurs,
+            Breach::RightInArea => RightFault::InArea,
+            Breach::RightOutArea => RightFault::OutArea,
+            Breach::RightParties => RightFault::Parties,
+            Breach::RightHolder => RightFault::Holder,
+            Breach::RightAgreement => RightFault::Agreement,
+            Breach::RightMark => RightFault::Mark,
+            Breach::LimitTooHigh => RightFault::LimitTooHigh,
+            Breach::LimitTopBit => RightFault::LimitTopBit,
+            Breach::LimitAboveN => RightFault::LimitAboveN,
+            _ => return None,
+        })
     }
 
     /// The clauses that must be broken along with it. A sender's EIC is always a party of its series,
     /// so it cannot be spoilt without them; every other way breaks its own clause alone.
-    pub fn companions(self) -> u64 {
+    pub fn companions(self) -> u128 {
         match self {
             Breach::SenderEic | Breach::SenderHyphen => SoundClause::InParty.bit() | SoundClause::OutParty.bit(),
             _ => 0,
@@ -175,6 +258,10 @@ pub fn break_book(random: &mut Random, book: &[u8], breach: Breach) -> Option<Ve
         Breach::CheckOfDay => Some(pieces.wrong_check(random, 0)),
         Breach::CheckOfSender => Some(pieces.wrong_check(random, pieces.owner)),
         Breach::CheckOfSeries => Some(pieces.wrong_check(random, pieces.one)),
+        Breach::CheckOfRight => {
+            let right = pieces.right(random)?;
+            Some(pieces.wrong_check(random, right))
+        }
         Breach::CheckOfFree => Some(pieces.wrong_check(random, pieces.free)),
         _ => {
             pieces.break_day(random, breach)?;
@@ -183,8 +270,8 @@ pub fn break_book(random: &mut Random, book: &[u8], breach: Breach) -> Option<Ve
     }
 }
 
-/// A sound book in pieces, with the slots that a breach may need: a sender that has two series at
-/// least, two of its series, another sender, and the lowest free slot.
+/// A sound book in pieces, with the slots that a breach may need: a sender that has two internal trades at
+/// least, two of these, another sender, and the lowest free slot.
 struct Pieces {
     list: Vec<Block>,
     n: usize,
@@ -214,11 +301,11 @@ impl Pieces {
     fn choose(&mut self, random: &mut Random) -> bool {
         let mut senders = slots_of(&self.list, KIND_SENDER);
         random.shuffle(&mut senders);
-        let owner = senders.iter().copied().find(|&slot| u16_at(&self.list[slot], COUNT) > 1);
+        let owner = senders.iter().copied().find(|&slot| self.trades_of(slot).len() > 1);
         let other = senders.iter().copied().find(|&slot| Some(slot) != owner);
         match (owner, other) {
             (Some(owner), Some(other)) => {
-                let mut series = self.series_of(owner);
+                let mut series = self.trades_of(owner);
                 random.shuffle(&mut series);
                 (self.owner, self.other, self.one, self.twin) = (owner, other, series[0], series[1]);
                 true
@@ -231,6 +318,73 @@ impl Pieces {
         let mut slots = slots_of(&self.list, KIND_SERIES);
         slots.retain(|&slot| usize::from(u16_at(&self.list[slot], SENDER_SLOT)) == sender);
         slots
+    }
+
+    fn trades_of(&self, sender: usize) -> Vec<usize> {
+        let mut slots = self.series_of(sender);
+        slots.retain(|&slot| is_internal(&self.list[slot]));
+        slots
+    }
+
+    /// The slot of a right; one is added if need be.
+    fn right(&mut self, random: &mut Random) -> Option<usize> {
+        let slots = slots_of(&self.list, KIND_RIGHT);
+        if !slots.is_empty() {
+            return Some(random.pick(&slots));
+        }
+        let holder = if random.percent(50) { field(&self.list[self.owner], SENDER) } else { names::valid_eic(random) };
+        let right = external::right(random, &self.list[0], &holder, &[]);
+        self.add(right)
+    }
+
+    /// The slot of an external schedule of this type; one is added if need be.
+    fn external(&mut self, random: &mut Random, business_type: u8) -> Option<usize> {
+        let mut slots = slots_of(&self.list, KIND_SERIES);
+        slots.retain(|&slot| self.list[slot][BUSINESS_TYPE] == business_type);
+        if !slots.is_empty() {
+            return Some(random.pick(&slots));
+        }
+        let area = field(&self.list[0], AREA);
+        let mut series = self.list[self.one];
+        if business_type == WITH_CAPACITY {
+            let right = external::right(random, &self.list[0], &area, &[]);
+            put_right(&mut series, &right);
+        } else {
+            series[BUSINESS_TYPE] = business_type;
+            let other = foreign_area(random, &area, &[]);
+            put_areas(random, &mut series, &area, &other);
+        }
+        self.add_to_owner(random, series)
+    }
+
+    /// A series more of the sender that owns this one, under another id. Nothing if it has 200.
+    fn add_to_owner(&mut self, random: &mut Random, mut series: Block) -> Option<usize> {
+        let owner = usize::from(u16_at(&series, SENDER_SLOT));
+        let count = u16_at(&self.list[owner], COUNT);
+        let taken: Vec<Field> = self.series_of(owner).iter().map(|&slot| field(&self.list[slot], ID)).collect();
+        let id = (0..50).map(|_| names::id(random)).find(|id| !taken.contains(id))?;
+        put_field(&mut series, ID, &id);
+        if count == MOST_SERIES {
+            return None;
+        }
+        put_u16(&mut self.list[owner], COUNT, count + 1);
+        self.add(series)
+    }
+
+    /// A block more, in the lowest free slot; a free slot follows it.
+    fn add(&mut self, block: Block) -> Option<usize> {
+        if !self.ensure_free(2) {
+            return None;
+        }
+        self.list[self.free] = block;
+        self.free += 1;
+        Some(self.free - 1)
+    }
+
+    /// Some external schedule.
+    fn any_external(&mut self, random: &mut Random) -> Option<usize> {
+        let business_type = random.pick(&[WITH_CAPACITY, WITHOUT_CAPACITY]);
+        self.external(random, business_type)
     }
 
     /// Lengthens the book, if need be, so that it has so many free slots; tells whether it may.
@@ -307,7 +461,7 @@ impl Pieces {
             Breach::KindDay => self.list[self.free] = self.list[0],
             Breach::KindUnknown => {
                 self.list[self.free] = self.list[random.pick(&[self.one, self.other])];
-                self.list[self.free][KIND] = random.pick(&[4, 5, 128, 255]);
+                self.list[self.free][KIND] = random.pick(&[5, 5, 6, 128, 255]);
             }
             Breach::CountZero => {
                 self.add_sender(random, &eic, 0)?;
@@ -381,7 +535,7 @@ impl Pieces {
             Breach::OutArea => put_field(series, OUT_AREA, &names::valid_eic(random)),
             Breach::ContractType => series[CONTRACT_TYPE] = other_byte(random, 0),
             Breach::Agreement => series[AGREEMENT + random.below(16)] = other_byte(random, 0),
-            Breach::BusinessType => series[BUSINESS_TYPE] = other_byte(random, INTERNAL_TRADE),
+            Breach::BusinessType => series[BUSINESS_TYPE] = random.pick(&[0, 1, 4, 5, 7, 128, 255]),
             Breach::DifferNextToN => series[DIFFER] = n as u8 + 1,
             // Where n is lower, 100 is above it too.
             Breach::DifferBeyond => series[DIFFER] = random.pick(&[255, 255, 128, 100.max(n as u8 + 2)]),
@@ -396,9 +550,17 @@ impl Pieces {
         match breach {
             Breach::SenderSlotZero => self.orphan(0),
             Breach::SenderSlotOfSeries => self.orphan(random.pick(&[self.one, self.twin])),
+            Breach::SenderSlotOfRight => {
+                let right = self.right(random)?;
+                self.orphan(right);
+            }
             Breach::SenderSlotFree => self.orphan(self.free),
             Breach::SenderSlotBeyond => self.orphan(self.beyond(random, self.owner)),
             Breach::PartnerSender => self.set_partner(random.pick(&[self.owner, self.other])),
+            Breach::PartnerRight => {
+                let right = self.right(random)?;
+                self.set_partner(right);
+            }
             Breach::PartnerFree => self.set_partner(self.free),
             Breach::PartnerBeyond => self.set_partner(self.beyond(random, self.twin)),
             Breach::PartiesEqual => {
@@ -415,10 +577,85 @@ impl Pieces {
                 put_field(&mut self.list[self.one], at, &names::valid_eic(random));
             }
             Breach::SeriesIdTwice => self.copy_from_twin(ID..ID + 16),
-            Breach::PairTwice => self.copy_from_twin(IN_PARTY..OUT_PARTY + 16),
-            _ => unreachable!("every other breach was made before"),
+            Breach::KeyTwice => self.copy_from_twin(IN_PARTY..OUT_PARTY + 16),
+            _ => return self.break_external(random, breach),
         }
         Some(())
+    }
+
+    /// Breaches of external schedules.
+    fn break_external(&mut self, random: &mut Random, breach: Breach) -> Option<()> {
+        let area = field(&self.list[0], AREA);
+        let slot = match breach {
+            Breach::NoCapacityContract | Breach::NoCapacityAgreement => self.external(random, WITHOUT_CAPACITY)?,
+            Breach::CapacityContractZero | Breach::CapacityContractAbove | Breach::CapacityAgreement => {
+                self.external(random, WITH_CAPACITY)?
+            }
+            Breach::ExternalKeyTwice | Breach::BothOurs | Breach::NoneOurs => self.any_external(random)?,
+            Breach::ExternalInArea | Breach::ExternalOutArea => self.any_external(random)?,
+            Breach::ExternalInParty | Breach::ExternalOutParty => self.any_external(random)?,
+            Breach::ExternalNeither => self.any_external(random)?,
+            _ => return self.break_right(random, breach),
+        };
+        let sender = field(&self.list[usize::from(u16_at(&self.list[slot], SENDER_SLOT))], SENDER);
+        let copy = self.list[slot];
+        let series = &mut self.list[slot];
+        match breach {
+            Breach::NoCapacityContract => series[CONTRACT_TYPE] = mostly(random, 1, &[99, 100, 255]),
+            Breach::NoCapacityAgreement if random.percent(50) => put_field(series, AGREEMENT, &names::id(random)),
+            Breach::NoCapacityAgreement => series[AGREEMENT + random.below(16)] = other_byte(random, 0),
+            Breach::CapacityContractZero => series[CONTRACT_TYPE] = 0,
+            Breach::CapacityContractAbove => series[CONTRACT_TYPE] = mostly(random, 100, &[128, 255]),
+            Breach::CapacityAgreement => put_field(series, AGREEMENT, &names::malformed_id(random)),
+            Breach::BothOurs => {
+                put_field(series, IN_AREA, &area);
+                put_field(series, OUT_AREA, &area);
+            }
+            Breach::NoneOurs => {
+                let at = if field(series, IN_AREA) == area { IN_AREA } else { OUT_AREA };
+                put_field(series, at, &names::valid_eic(random));
+            }
+            Breach::ExternalInArea | Breach::ExternalOutArea => {
+                if (field(series, OUT_AREA) == area) != (breach == Breach::ExternalInArea) {
+                    turn_round(series);
+                }
+                let at = if breach == Breach::ExternalInArea { IN_AREA } else { OUT_AREA };
+                put_field(series, at, &names::invalid_eic(random));
+            }
+            Breach::ExternalInParty => {
+                put_field(series, IN_PARTY, &names::invalid_eic(random));
+                put_field(series, OUT_PARTY, &sender);
+            }
+            Breach::ExternalOutParty => {
+                put_field(series, IN_PARTY, &sender);
+                put_field(series, OUT_PARTY, &names::invalid_eic(random));
+            }
+            Breach::ExternalNeither => {
+                let party = names::valid_eic(random);
+                let other = if random.percent(50) { names::valid_eic(random) } else { party };
+                put_field(series, IN_PARTY, &party);
+                put_field(series, OUT_PARTY, &other);
+            }
+            _ => {
+                self.add_to_owner(random, copy)?;
+            }
+        }
+        Some(())
+    }
+
+    /// Breaches of rights.
+    fn break_right(&mut self, random: &mut Random, breach: Breach) -> Option<()> {
+        let (slot, day) = (self.right(random)?, self.list[0]);
+        if let Some(fault) = breach.right_fault() {
+            let fault =
+                if fault == RightFault::Agreement && random.percent(30) { RightFault::NoAgreement } else { fault };
+            return fault.spoil(random, &mut self.list[slot], &day);
+        }
+        let mut twin = self.list[slot];
+        if random.percent(75) {
+            put_limits(random, &mut twin);
+        }
+        self.add(twin).map(|_| ())
     }
 
     /// An unlawful n in every block; nothing stands above it.
@@ -444,10 +681,17 @@ impl Pieces {
     }
 
     fn set_area(&mut self, area: &Field) {
+        let old = field(&self.list[0], AREA);
         put_field(&mut self.list[0], AREA, area);
-        for slot in slots_of(&self.list, KIND_SERIES) {
-            put_field(&mut self.list[slot], IN_AREA, area);
-            put_field(&mut self.list[slot], OUT_AREA, area);
+        for slot in [slots_of(&self.list, KIND_SERIES), slots_of(&self.list, KIND_RIGHT)].concat() {
+            self.replace(slot, &[IN_AREA, OUT_AREA], &old, area);
+        }
+    }
+
+    /// Puts another code in a block, in each of these places where the old one stands.
+    fn replace(&mut self, slot: usize, places: &[usize], old: &Field, new: &Field) {
+        for &at in places.iter().filter(|&&at| field(&self.list[slot], at) == *old).collect::<Vec<_>>() {
+            put_field(&mut self.list[slot], at, new);
         }
     }
 
@@ -460,9 +704,9 @@ impl Pieces {
 
     /// Another code for the sender, in its block and wherever it is a party of its own series.
     fn set_sender(&mut self, eic: &Field) {
+        let old = field(&self.list[self.owner], SENDER);
         for slot in self.series_of(self.owner) {
-            let at = self.party_that_is_sender(slot);
-            put_field(&mut self.list[slot], at, eic);
+            self.replace(slot, &[IN_PARTY, OUT_PARTY], &old, eic);
         }
         put_field(&mut self.list[self.owner], SENDER, eic);
     }
@@ -479,7 +723,8 @@ impl Pieces {
 
     /// Another code for the in or out party of a series whose sender is the other party.
     fn set_other_party(&mut self, at: usize, eic: &Field) -> Option<()> {
-        let slots = slots_of(&self.list, KIND_SERIES);
+        let mut slots = slots_of(&self.list, KIND_SERIES);
+        slots.retain(|&slot| is_internal(&self.list[slot]));
         let slot = slots.into_iter().find(|&slot| self.party_that_is_sender(slot) != at)?;
         put_field(&mut self.list[slot], at, eic);
         Some(())
@@ -573,9 +818,23 @@ mod tests {
         let mut made = vec![0; Breach::ALL.len()];
         for round in 0..200 {
             let shape = if round % 50 == 0 {
-                Shape { senders: 3, fewest_series: 150, most_series: 200, free_slots: round % 7 }
+                Shape {
+                    senders: 3,
+                    fewest_series: 150,
+                    most_series: 200,
+                    free_slots: round % 7,
+                    rights: 4,
+                    external: 20,
+                }
             } else {
-                Shape { senders: round % 4, fewest_series: 1, most_series: 5, free_slots: round % 3 }
+                Shape {
+                    senders: round % 4,
+                    fewest_series: 1,
+                    most_series: 5,
+                    free_slots: round % 3,
+                    rights: round % 3,
+                    external: 30,
+                }
             };
             let book = sound_book(&mut random, &pool, &shape);
             assert!(is_sound(&book));
@@ -602,9 +861,9 @@ mod tests {
     fn a_wrong_check_is_all_that_is_wrong() {
         let mut random = Random::new(8);
         let pool: Vec<Field> = (0..20).map(|_| names::valid_eic(&mut random)).collect();
-        let shape = Shape { senders: 2, fewest_series: 1, most_series: 3, free_slots: 1 };
+        let shape = Shape { senders: 2, fewest_series: 1, most_series: 3, free_slots: 1, rights: 1, external: 30 };
         let book = sound_book(&mut random, &pool, &shape);
-        for breach in [Breach::CheckOfDay, Breach::CheckOfSender, Breach::CheckOfSeries, Breach::CheckOfFree] {
+        for breach in Breach::ALL.iter().copied().filter(|breach| breach.clause() == SoundClause::Check) {
             let broken = break_book(&mut random, &book, breach).expect("the book is rich enough");
             assert!(!is_sound(&broken));
             assert!(is_sound(&sealed(blocks(&broken).copied().collect())), "{}", breach.text());

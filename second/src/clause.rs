@@ -2,7 +2,7 @@
 //!
 //! A rule of the paper is often several conditions joined by "or". For the histogram each of
 //! them is told apart, so every list of clauses is an enum whose order is the order in which the
-//! paper names them. A set of broken clauses is a 64-bit number; its lowest bit is the first
+//! paper names them. A set of broken clauses is a 128-bit number; its lowest bit is the first
 //! broken clause. A list of cases is the same without the sets, and without texts where nobody reads
 //! them.
 
@@ -35,12 +35,12 @@ macro_rules! clauses {
 
         impl $name {
             /// The clause's place in a set of clauses.
-            pub fn bit(self) -> u64 {
+            pub fn bit(self) -> u128 {
                 1 << (self as u32)
             }
 
             /// The first clause of a set, in the paper's order.
-            pub fn first(set: u64) -> Option<$name> {
+            pub fn first(set: u128) -> Option<$name> {
                 if set == 0 { None } else { Some(Self::ALL[set.trailing_zeros() as usize]) }
             }
         }

@@ -5,7 +5,7 @@
 pub const REASON_CODES: [u8; 33] = [
     1, // accepted
     0, 0, 53, 78, 4, 51, 55, 22, 23, 62, 46, 42, 49, 57, 50, 52, 0, // rules 1 to 17
-    0, 0, // 18 and 19 are not used
+    59, 59, // rules 18 and 19
     0, 0, 0, 0, 0, 0, 0, // 20 to 26
     0, 0, 0, // 27 to 29 are not used
     42, 46, 0, // quantity text

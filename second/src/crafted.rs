@@ -3,8 +3,10 @@
 use crate::block::*;
 use crate::clause::cases;
 use crate::counts::{Position, Slot, LATEST_MINUTE, LONGEST_LEAD};
+use crate::external::{self, foreign_area, put_areas, RightPart};
 use crate::names;
 use crate::random::Random;
+use crate::right::{but_for_limits, names as names_right};
 use crate::sound::{FEWEST_BLOCKS, MOST_BLOCKS, NS};
 
 /// How large a crafted book becomes.
@@ -13,7 +15,13 @@ pub struct Shape {
     pub fewest_series: usize,
     pub most_series: usize,
     pub free_slots: usize,
+    pub rights: usize,
+    /// How many series in a hundred are external schedules.
+    pub external: usize,
 }
+
+/// The number of a right's sender: it has none.
+const NO_SENDER: usize = usize::MAX;
 
 /// The bytes of a block list, each block sealed. A free block stays zero, since its check is 0.
 pub fn sealed(mut list: Vec<Block>) -> Vec<u8> {
@@ -36,19 +44,27 @@ pub fn lead(random: &mut Random) -> u16 {
 }
 
 /// A sound book with random layout, versions, marks and nets. Marks and nets are mostly false:
-/// soundness only bounds them. Senders may stand behind their series.
+/// soundness only bounds them. Senders may stand behind their series, and rights anywhere.
 pub fn sound_book(random: &mut Random, pool: &[Field], shape: &Shape) -> Vec<u8> {
     let day = day_block(random, pool);
     let mut eics: Vec<Field> = pool.to_vec();
     random.shuffle(&mut eics);
     // Blocks come with the number of their sender; slots are given out afterwards.
     let mut list: Vec<(usize, Block)> = Vec::new();
+    let mut rights = rights(random, &day, &eics, shape);
     for sender in 0..shape.senders {
         let count = random.between(shape.fewest_series, shape.most_series);
         let partners = (count + 1).max(shape.senders);
-        let filed = filing(random, &day, &eics[sender], &eics[..eics.len().min(partners + 1)], count);
+        let partners = &eics[..eics.len().min(partners + 1)];
+        let mut filed = filing(random, &day, &eics[sender], partners, count);
+        turn_external(random, &mut filed, &field(&day, AREA), partners, &rights, shape.external);
         list.extend(filed.into_iter().map(|block| (sender, block)));
     }
+    if random.percent(85) {
+        rights.iter_mut().for_each(|right| widen(random, right, &eics, &list));
+    }
+    let first = list.len().min(random.below(3));
+    list.splice(first..first, rights.into_iter().map(|right| (NO_SENDER, right)));
     if random.percent(60) {
         random.shuffle(&mut list);
     }
@@ -58,6 +74,90 @@ pub fn sound_book(random: &mut Random, pool: &[Field], shape: &Shape) -> Vec<u8>
     let blocks = (whole.len() + shape.free_slots).clamp(FEWEST_BLOCKS, MOST_BLOCKS);
     whole.resize(blocks, [0; BLOCK_BYTES]);
     sealed(whole)
+}
+
+/// The rights of a crafted book, some of which differ from another one in one part alone.
+fn rights(random: &mut Random, day: &Block, eics: &[Field], shape: &Shape) -> Vec<Block> {
+    let mut rights: Vec<Block> = Vec::new();
+    while rights.len() < shape.rights {
+        let holder = if shape.senders > 0 && random.percent(80) { eics[random.below(shape.senders)] } else { eics[0] };
+        let new = match rights.last() {
+            Some(last) if random.percent(40) => {
+                let part = random.pick(RightPart::ALL);
+                let mut right = part.altered(random, last, &field(day, AREA));
+                if part == RightPart::Holder {
+                    external::put_holder(&mut right, &holder);
+                }
+                right
+            }
+            _ => external::right(random, day, &holder, &eics[..eics.len().min(6)]),
+        };
+        if rights.iter().all(|right| but_for_limits(right) != but_for_limits(&new)) {
+            rights.push(new);
+        }
+    }
+    rights
+}
+
+/// Turns so many in a hundred of a sender's series into external schedules, on its rights where it has any.
+fn turn_external(
+    random: &mut Random,
+    filed: &mut [Block],
+    area: &Field,
+    partners: &[Field],
+    rights: &[Block],
+    often: usize,
+) {
+    let sender = field(&filed[0], SENDER);
+    let own: Vec<Block> = rights.iter().copied().filter(|right| field(right, HOLDER) == sender).collect();
+    for place in 1..filed.len() {
+        if !random.percent(often) {
+            continue;
+        }
+        let mut series = filed[place];
+        if own.is_empty() && random.percent(95) || random.percent(45) {
+            series[BUSINESS_TYPE] = WITHOUT_CAPACITY;
+            let other = foreign_area(random, area, partners);
+            put_areas(random, &mut series, area, &other);
+        } else {
+            let right = if own.is_empty() { rights.first() } else { own.get(random.below(own.len())) };
+            right.into_iter().for_each(|right| put_right(&mut series, right));
+        }
+        if random.percent(40) {
+            put_field(&mut series, IN_PARTY, &sender);
+            put_field(&mut series, OUT_PARTY, &sender);
+        }
+        if is_external(&series) && filed[1..].iter().all(|other| key(other) != key(&series)) {
+            filed[place] = series;
+        }
+    }
+}
+
+/// Makes a series one on this right.
+pub fn put_right(series: &mut Block, right: &Block) {
+    series[BUSINESS_TYPE] = WITH_CAPACITY;
+    series[CONTRACT_TYPE] = right[CONTRACT_TYPE];
+    series[IN_AREA..IN_PARTY].copy_from_slice(&right[IN_AREA..IN_PARTY]);
+    put_field(series, AGREEMENT, &field(right, AGREEMENT));
+}
+
+/// Makes the limits of a right such that its holder's series stay within them, if they can.
+fn widen(random: &mut Random, right: &mut Block, eics: &[Field], list: &[(usize, Block)]) {
+    let holder = field(right, HOLDER);
+    let on_it = |sender: usize, block: &Block| {
+        let with_capacity = block[KIND] == KIND_SERIES && block[BUSINESS_TYPE] == WITH_CAPACITY;
+        with_capacity && eics[sender] == holder && names_right(block, right)
+    };
+    let claims: Vec<&Block> =
+        list.iter().filter(|(sender, block)| on_it(*sender, block)).map(|(_, block)| block).collect();
+    if claims.is_empty() {
+        return;
+    }
+    let more = random.pick(&[0, 0, 1, 5_000]);
+    for position in (1..=u16::from(right[N])).map(Position) {
+        let sum: u32 = claims.iter().map(|series| quantity(series, position)).sum();
+        put_quantity(right, position, (sum + more).min(HIGHEST_QUANTITY));
+    }
 }
 
 fn day_block(random: &mut Random, pool: &[Field]) -> Block {
@@ -146,7 +246,8 @@ fn placed(random: &mut Random, list: Vec<(usize, Block)>, senders: usize) -> Vec
     for ((sender, block), slot) in list.iter().zip(1..) {
         match block[KIND] {
             KIND_SENDER => sender_slots[*sender] = slot,
-            _ => series_slots.push(slot),
+            KIND_SERIES => series_slots.push(slot),
+            _ => {}
         }
     }
     let mut placed = Vec::new();
@@ -286,9 +387,23 @@ mod tests {
         let pool: Vec<Field> = (0..260).map(|_| names::valid_eic(&mut random)).collect();
         for round in 0..400 {
             let shape = if round % 50 == 0 {
-                Shape { senders: 3, fewest_series: 150, most_series: 200, free_slots: round % 7 }
+                Shape {
+                    senders: 3,
+                    fewest_series: 150,
+                    most_series: 200,
+                    free_slots: round % 7,
+                    rights: 5,
+                    external: 20,
+                }
             } else {
-                Shape { senders: 1 + round % 4, fewest_series: 1, most_series: 5, free_slots: round % 3 }
+                Shape {
+                    senders: 1 + round % 4,
+                    fewest_series: 1,
+                    most_series: 5,
+                    free_slots: round % 3,
+                    rights: round % 5,
+                    external: 40,
+                }
             };
             let book = sound_book(&mut random, &pool, &shape);
             assert!(is_sound(&book));
@@ -308,7 +423,7 @@ mod tests {
         let mut random = Random::new(8);
         let pool: Vec<Field> = (0..20).map(|_| names::valid_eic(&mut random)).collect();
         for free_slots in [0, 3] {
-            let shape = Shape { senders: 3, fewest_series: 1, most_series: 5, free_slots };
+            let shape = Shape { senders: 3, fewest_series: 1, most_series: 5, free_slots, rights: 3, external: 40 };
             let book = sound_book(&mut random, &pool, &shape);
             let used = blocks(&book).skip(1).filter(|block| block[KIND] != 0).count() as u16;
             let mut order: Vec<Slot> = (1..=used).map(Slot).collect();

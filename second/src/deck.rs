@@ -3,15 +3,33 @@
 
 use crate::random::Random;
 
+/// The seed of the one order in which cards are dealt that are not shuffled each time.
+const ONE_ORDER: u64 = 45;
+
 pub struct Deck<T> {
     cards: Vec<T>,
     left: Vec<T>,
+    /// Whether each round has an order of its own.
+    shuffled: bool,
 }
 
 impl<T: Copy> Deck<T> {
     pub fn of(cards: &[T]) -> Self {
         assert!(!cards.is_empty(), "there must be something to deal");
-        Deck { cards: cards.to_vec(), left: Vec::new() }
+        Deck { cards: cards.to_vec(), left: Vec::new(), shuffled: true }
+    }
+
+    /// Cards that come in one and the same order in every stream, in which the stream of this seed begins at a place of
+    /// its own. Over six streams that follow each other each card then comes about as often as any other, though no
+    /// stream ends with a whole round.
+    pub fn in_one_order(cards: &[T], seed: u64) -> Self {
+        let mut cards = cards.to_vec();
+        Random::new(ONE_ORDER).shuffle(&mut cards);
+        let begins = (seed % 6) as usize * cards.len() / 6;
+        cards.rotate_left(begins);
+        // The last card is dealt first.
+        cards.reverse();
+        Deck { shuffled: false, ..Deck::of(&cards) }
     }
 
     /// The next card.
@@ -50,7 +68,9 @@ impl<T: Copy> Deck<T> {
 
     fn put_round_below(&mut self, random: &mut Random) {
         let mut round = self.cards.clone();
-        random.shuffle(&mut round);
+        if self.shuffled {
+            random.shuffle(&mut round);
+        }
         round.append(&mut self.left);
         self.left = round;
     }
@@ -69,6 +89,18 @@ mod tests {
             dealt.sort_unstable();
             assert_eq!(dealt, [1, 2, 3, 4]);
         }
+    }
+
+    #[test]
+    fn six_streams_deal_all_cards_about_equally_often() {
+        let cards: Vec<usize> = (0..50).collect();
+        let mut dealt = vec![0; cards.len()];
+        for seed in 1..=6 {
+            let mut deck = Deck::in_one_order(&cards, seed);
+            let mut random = Random::new(seed);
+            (0..185).for_each(|_| dealt[deck.deal(&mut random)] += 1);
+        }
+        assert!(dealt.iter().all(|&times| times == 22 || times == 23), "{dealt:?}");
     }
 
     #[test]

@@ -12,6 +12,7 @@ use crate::listing;
 use crate::message::{series_of_message, SeriesReader};
 use crate::quantity_text;
 use crate::readings;
+use crate::right;
 use crate::sound;
 use crate::stream::{Opening, Record};
 use crate::submission::{judge, submit, Verdict};
@@ -44,6 +45,7 @@ pub enum Reply {
     Code(u8),
     Judge(Verdict),
     Convert(u8),
+    Right(u8),
 }
 
 /// Bytes outside the buffer were to be set: the stream is malformed.
@@ -149,6 +151,7 @@ impl Desk {
             Record::Code(number) => Reply::Code(reason_code(*number)),
             Record::Judge(message) => Reply::Judge(judge(&self.book, message)),
             Record::Convert => Reply::Convert(convert(&mut self.book)),
+            Record::Right(block) => Reply::Right(right::enter(&mut self.book, block)),
         })
     }
 
@@ -190,6 +193,7 @@ impl Desk {
             Reply::Code(code) => writeln!(out, "code {code}"),
             Reply::Judge(verdict) => writeln!(out, "judge {}", numbers_of(verdict)),
             Reply::Convert(number) => writeln!(out, "convert {number}"),
+            Reply::Right(number) => writeln!(out, "right {number}"),
         }
     }
 }
@@ -247,6 +251,7 @@ mod tests {
         assert_eq!(line(&mut desk, Record::Submit(vec![])), "submit 1 0 0 0 0 0\n");
         assert_eq!(line(&mut desk, Record::Judge(vec![])), "judge 1 0 0 0 0\n");
         assert_eq!(line(&mut desk, Record::Convert), "convert 1\n");
+        assert_eq!(line(&mut desk, Record::Right(vec![])), "right 1\n");
         assert_eq!(line(&mut desk, Record::Mark { sender: vec![], id: vec![] }), "mark 1 0 0 0\n");
         assert_eq!(line(&mut desk, Record::Listing), "listing 6e6f7420736f756e640a\n");
         assert_eq!(line(&mut desk, Record::Length(1_024)), "length 1024\n");
@@ -272,6 +277,7 @@ mod tests {
         assert_eq!(line(&mut desk, Record::Eic(b"10YAT-APG".to_vec())), "eic 10\n");
         assert_eq!(line(&mut desk, Record::Plain), "plain 0 1\n");
         assert_eq!(line(&mut desk, Record::Convert), "convert 0\n");
+        assert_eq!(line(&mut desk, Record::Right(vec![])), "right 40\n");
         assert_eq!(line(&mut desk, Record::Mark { sender: vec![], id: vec![] }), "mark 23 0 0 0\n");
         assert_eq!(line(&mut desk, Record::Block { sender: vec![], id: vec![] }), "block 0\n");
         assert_eq!(line(&mut desk, Record::Reader { number: 1, message: vec![] }), "reader 0\n");

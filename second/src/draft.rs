@@ -6,10 +6,13 @@ use std::collections::HashMap;
 use crate::block::*;
 use crate::clause::cases;
 use crate::counts::{Minute, Position};
+use crate::crafted::put_right;
 use crate::deck::Deck;
 use crate::difference::{other_quantity, Difference};
+use crate::external::{foreign_area, put_areas, rights_in, turn_round, KeyPart};
 use crate::names;
 use crate::random::Random;
+use crate::right::names as names_right;
 use crate::stream::MOST_MESSAGE_BYTES;
 use crate::versions::lawful_version;
 
@@ -26,6 +29,8 @@ pub struct Draft {
     first_open: u16,
     /// The ids the book holds of this sender.
     stored: Vec<Field>,
+    /// The rights that the sender holds in the book.
+    rights: Vec<Block>,
     free_slots: usize,
 }
 
@@ -47,6 +52,8 @@ pub struct Growth {
     pub changed: usize,
     /// All new series stand on this side, at the highest quantity: this drives the net to its limit.
     pub side: Option<Side>,
+    /// How many new series in a hundred are external schedules.
+    pub external: usize,
     pub version: Version,
 }
 
@@ -67,7 +74,7 @@ pub enum Side {
     Sells,
 }
 
-/// Series that others filed, by in and out party.
+/// Internal trades that others filed, by in and out party.
 type Filed<'book> = HashMap<(Field, Field), &'book Block>;
 
 /// The sender block of a message that comes after the kept one, or is the sender's first.
@@ -109,6 +116,7 @@ impl Draft {
             n,
             first_open: (1..=n).find(|&p| Position(p).is_open(clock, lead)).unwrap_or(n + 1),
             stored: Vec::new(),
+            rights: rights_in(book).into_iter().filter(|right| field(right, HOLDER) == sender).collect(),
             free_slots: list.iter().filter(|block| block[KIND] == 0).count(),
         };
         draft.take_stored(&list, slot);
@@ -122,7 +130,7 @@ impl Draft {
             New::Filling(more) => (draft.free_slots + more).saturating_sub(usize::from(slot.is_none())).max(fewest),
         };
         let answering = if growth.new == New::Answering { 100 } else { 80 };
-        draft.add_new(random, new, growth.side, partners, &theirs, answering);
+        draft.add_new(random, new, growth, partners, &theirs, answering);
         if random.percent(20) {
             random.shuffle(&mut draft.blocks[1..]);
         }
@@ -145,15 +153,47 @@ impl Draft {
     /// Makes stored series fit for a message, and changes so many of a hundred.
     fn change_stored(&mut self, random: &mut Random, changed: usize, theirs: &Filed) {
         let (version, first_open, n) = (self.version(), self.first_open, self.n);
-        for series in self.blocks.iter_mut().skip(1) {
+        for place in 1..self.blocks.len() {
+            let series = &mut self.blocks[place];
             let before = *series;
             put_u16(series, SENDER_SLOT, 0);
             series[MARK..VALUES].fill(0);
             if random.percent(changed) {
-                change(random, series, theirs.get(&pair(series)).copied(), first_open, n);
+                let other = theirs.get(&pair(series)).copied().filter(|_| is_internal(series));
+                change(random, series, other, first_open, n);
+                self.keep_within_right(random, place);
+                let series = &mut self.blocks[place];
                 if series[VALUES..CHECK] != before[VALUES..CHECK] {
                     put_u16(series, VERSION, version);
                 }
+            }
+        }
+    }
+
+    /// The right that the series names, if the sender has it.
+    pub fn right_of(&self, place: usize) -> Option<Block> {
+        let series = &self.blocks[place];
+        let named = |right: &&Block| series[BUSINESS_TYPE] == WITH_CAPACITY && names_right(series, right);
+        self.rights.iter().find(named).copied()
+    }
+
+    /// What the other series of the draft leave of a right at a position.
+    fn left_of(&self, right: &Block, place: usize, position: Position) -> u32 {
+        let others = (1..self.blocks.len()).filter(|&other| other != place);
+        let claims = others
+            .map(|other| &self.blocks[other])
+            .filter(|series| series[BUSINESS_TYPE] == WITH_CAPACITY && names_right(series, right));
+        claims.fold(quantity(right, position), |left, series| left.saturating_sub(quantity(series, position)))
+    }
+
+    /// Takes open quantities of a series on a right down to what is left of it; sometimes up to that.
+    fn keep_within_right(&mut self, random: &mut Random, place: usize) {
+        if let Some(right) = self.right_of(place) {
+            let all = random.percent(35);
+            for position in (self.first_open..=self.n).map(Position) {
+                let left = self.left_of(&right, place, position);
+                let value = quantity(&self.blocks[place], position);
+                put_quantity(&mut self.blocks[place], position, if all { left } else { value.min(left) });
             }
         }
     }
@@ -164,7 +204,7 @@ impl Draft {
         &mut self,
         random: &mut Random,
         new: usize,
-        side: Option<Side>,
+        growth: &Growth,
         partners: &[Field],
         theirs: &Filed,
         answering: usize,
@@ -173,8 +213,12 @@ impl Draft {
             theirs.keys().copied().filter(|parties| !self.has_pair(parties)).collect();
         unanswered.sort_unstable();
         for _ in 0..new {
-            if let Some(side) = side {
-                self.add_at_limit(random, side, partners);
+            if let Some(side) = growth.side {
+                self.add_at_limit(random, side, partners, growth.external);
+                continue;
+            }
+            if random.percent(growth.external) {
+                self.add_external(random, partners);
                 continue;
             }
             let wanted = if !unanswered.is_empty() && random.percent(answering) {
@@ -187,7 +231,11 @@ impl Draft {
     }
 
     fn has_pair(&self, parties: &(Field, Field)) -> bool {
-        self.blocks[1..].iter().any(|block| pair(block) == *parties)
+        self.blocks[1..].iter().any(|block| is_internal(block) && pair(block) == *parties)
+    }
+
+    fn has_key(&self, series: &Block) -> bool {
+        self.blocks[1..].iter().any(|block| key(block) == key(series))
     }
 
     fn is_stored(&self, series: &Block) -> bool {
@@ -230,6 +278,18 @@ impl Draft {
             let other = if tries > 20 { names::valid_eic(random) } else { random.pick(partners) };
             parties = if random.percent(50) { (sender, other) } else { (other, sender) };
         }
+        let mut series = self.series(random, parties);
+        if let Some(other) = theirs.get(&parties).copied().filter(|_| random.percent(70)) {
+            agree(&mut series, other, self.first_open, self.n);
+            if random.percent(25) {
+                change(random, &mut series, None, self.first_open, self.n);
+            }
+        }
+        self.blocks.push(series);
+    }
+
+    /// A new internal trade with some quantities.
+    fn series(&self, random: &mut Random, parties: (Field, Field)) -> Block {
         let mut series = [0; BLOCK_BYTES];
         series[KIND] = KIND_SERIES;
         series[N] = self.blocks[0][N];
@@ -245,30 +305,136 @@ impl Draft {
         for position in self.first_open..=self.n {
             put_quantity(&mut series, Position(position), values[usize::from(position) - 1]);
         }
-        if let Some(other) = theirs.get(&parties).copied().filter(|_| random.percent(70)) {
-            agree(&mut series, other, self.first_open, self.n);
-            if random.percent(25) {
-                change(random, &mut series, None, self.first_open, self.n);
-            }
+        series
+    }
+
+    /// The parties of an external schedule: the sender once or twice; sometimes those of a trade in the message.
+    fn external_parties(&self, random: &mut Random, partners: &[Field]) -> (Field, Field) {
+        let sender = self.sender;
+        let other = if random.percent(20) { names::valid_eic(random) } else { random.pick(partners) };
+        match random.below(10) {
+            0..=2 => (sender, sender),
+            3 | 4 if self.blocks.len() > 1 => pair(&self.blocks[self.any_place(random)]),
+            3..=6 => (sender, other),
+            _ => (other, sender),
+        }
+    }
+
+    /// Adds a new external schedule, if there is room in the message: on a right, where the sender has any, or without
+    /// capacity.
+    pub fn add_external(&mut self, random: &mut Random, partners: &[Field]) {
+        let right = if self.rights.is_empty() || random.percent(40) { None } else { Some(random.pick(&self.rights)) };
+        match right {
+            Some(right) => self.add_claim(random, &right, partners),
+            None => self.add_without_capacity(random, partners),
+        }
+    }
+
+    fn add_without_capacity(&mut self, random: &mut Random, partners: &[Field]) {
+        let area = self.area;
+        self.add_with_new_key(random, partners, |random, series| {
+            series[BUSINESS_TYPE] = WITHOUT_CAPACITY;
+            let other = foreign_area(random, &area, partners);
+            put_areas(random, series, &area, &other);
+        });
+    }
+
+    /// Adds a new series on this right, within what is left of it if the sender holds it.
+    pub fn add_claim(&mut self, random: &mut Random, right: &Block, partners: &[Field]) {
+        let before = self.blocks.len();
+        self.add_with_new_key(random, partners, |_, series| put_right(series, right));
+        if self.blocks.len() > before {
+            self.keep_within_right(random, before);
+        }
+    }
+
+    /// Adds a new series on this right with these quantities wherever it is still open. Its place; nothing if there is
+    /// no room in the message.
+    pub fn claim(
+        &mut self,
+        random: &mut Random,
+        right: &Block,
+        partners: &[Field],
+        value: impl Fn(Position) -> u32,
+    ) -> Option<usize> {
+        let place = self.blocks.len();
+        self.add_with_new_key(random, partners, |_, series| put_right(series, right));
+        let series = self.blocks.get_mut(place)?;
+        (self.first_open..=self.n).map(Position).for_each(|open| put_quantity(series, open, value(open)));
+        Some(place)
+    }
+
+    /// A second series whose key differs from this one's in one part alone; what it becomes there is given. Its place;
+    /// nothing if there is no room in the message or such a series stands there.
+    pub fn twin(&mut self, random: &mut Random, place: usize, part: KeyPart, to: &[u8]) -> Option<usize> {
+        let mut twin = self.series(random, pair(&self.blocks[place]));
+        put_key(&mut twin, &self.blocks[place]);
+        twin[part.bytes()].copy_from_slice(to);
+        if self.blocks.len() > usize::from(MOST_SERIES) || self.has_key(&twin) {
+            return None;
+        }
+        self.blocks.push(twin);
+        self.keep_within_right(random, self.blocks.len() - 1);
+        Some(self.blocks.len() - 1)
+    }
+
+    /// The open positions.
+    pub fn open_positions(&self) -> std::ops::RangeInclusive<u16> {
+        self.first_open..=self.n
+    }
+
+    /// The places of series that the book holds.
+    pub fn stored_places(&self) -> Vec<usize> {
+        (1..self.blocks.len()).filter(|&place| self.is_stored(&self.blocks[place])).collect()
+    }
+
+    /// Adds a series that is made of an internal trade and whose key is not in the message yet.
+    fn add_with_new_key(&mut self, random: &mut Random, partners: &[Field], make: impl Fn(&mut Random, &mut Block)) {
+        if self.blocks.len() > usize::from(MOST_SERIES) {
+            return;
+        }
+        let parties = self.external_parties(random, partners);
+        let mut series = self.series(random, parties);
+        make(random, &mut series);
+        while self.has_key(&series) {
+            let (in_party, out_party) = (self.sender, names::valid_eic(random));
+            put_field(&mut series, IN_PARTY, &in_party);
+            put_field(&mut series, OUT_PARTY, &out_party);
         }
         self.blocks.push(series);
     }
 
-    /// Adds a new series with the highest quantity wherever that is still open.
-    fn add_at_limit(&mut self, random: &mut Random, side: Side, partners: &[Field]) {
+    /// Adds a new series with the highest quantity wherever that is still open. So many of a hundred are external
+    /// schedules, whose direction alone counts.
+    fn add_at_limit(&mut self, random: &mut Random, side: Side, partners: &[Field], external: usize) {
+        let before = self.blocks.len();
+        if random.percent(external) {
+            self.add_without_capacity(random, partners);
+            let area = self.area;
+            if let Some(series) = self.blocks.get_mut(before) {
+                if (field(series, IN_AREA) == area) != (side == Side::Buys) {
+                    turn_round(series);
+                }
+            }
+        } else {
+            self.add_trade_at(random, side, partners);
+        }
+        if let Some(series) = self.blocks.get_mut(before) {
+            for position in self.first_open..=self.n {
+                put_quantity(series, Position(position), HIGHEST_QUANTITY);
+            }
+        }
+    }
+
+    fn add_trade_at(&mut self, random: &mut Random, side: Side, partners: &[Field]) {
         let parties = |other: Field| match side {
             Side::Buys => (self.sender, other),
             Side::Sells => (other, self.sender),
         };
         let free = |other: &&Field| **other != self.sender && !self.has_pair(&parties(**other));
         let other = partners.iter().find(free).copied().unwrap_or_else(|| names::valid_eic(random));
-        let (wanted, before) = (parties(other), self.blocks.len());
+        let wanted = parties(other);
         self.add_series(random, Some(wanted), partners, &Filed::new());
-        if let Some(series) = self.blocks.get_mut(before) {
-            for position in self.first_open..=self.n {
-                put_quantity(series, Position(position), HIGHEST_QUANTITY);
-            }
-        }
     }
 
     /// Takes a few open quantities down from the highest by one, or up to it again. A net that was at
@@ -294,7 +460,7 @@ impl Draft {
         let list: Vec<&Block> = blocks(book).collect();
         let theirs = filed_by_others(&list, slot_of(&list, &self.sender), &self.sender);
         let (version, first_open, n) = (self.version(), self.first_open, self.n);
-        for series in self.blocks.iter_mut().skip(1) {
+        for series in self.blocks.iter_mut().skip(1).filter(|series| is_internal(series)) {
             let (before, other) = match theirs.get(&pair(series)) {
                 None => continue,
                 Some(&other) => (*series, other),
@@ -327,9 +493,49 @@ impl Draft {
         })
     }
 
+    /// The same, of an internal trade.
+    pub fn new_trade(&mut self, random: &mut Random, partners: &[Field]) -> usize {
+        self.new_of(|series| is_internal(series)).unwrap_or_else(|| {
+            self.add_series(random, None, partners, &Filed::new());
+            self.blocks.len() - 1
+        })
+    }
+
+    /// The same, of an external schedule.
+    pub fn new_external(&mut self, random: &mut Random, partners: &[Field]) -> usize {
+        self.new_of(is_external).unwrap_or_else(|| {
+            self.add_external(random, partners);
+            self.blocks.len() - 1
+        })
+    }
+
+    /// The same, of a series on a right, which is one of the sender's if it has any.
+    pub fn new_claim(&mut self, random: &mut Random, partners: &[Field]) -> usize {
+        self.new_of(|series| series[BUSINESS_TYPE] == WITH_CAPACITY).unwrap_or_else(|| {
+            let right = match self.rights.as_slice() {
+                [] => self.made_up_right(random, partners),
+                own => random.pick(own),
+            };
+            self.add_claim(random, &right, partners);
+            self.blocks.len() - 1
+        })
+    }
+
+    fn new_of(&self, such: impl Fn(&Block) -> bool) -> Option<usize> {
+        (1..self.blocks.len()).find(|&place| !self.is_stored(&self.blocks[place]) && such(&self.blocks[place]))
+    }
+
+    /// A right that no book need hold.
+    fn made_up_right(&self, random: &mut Random, partners: &[Field]) -> Block {
+        let mut day = [0; BLOCK_BYTES];
+        day[N] = self.blocks[0][N];
+        put_field(&mut day, AREA, &self.area);
+        crate::external::right(random, &day, &self.sender, partners)
+    }
+
     /// The place of a series that the book holds.
     fn stored_series(&self, random: &mut Random) -> Option<usize> {
-        let places: Vec<usize> = (1..self.blocks.len()).filter(|&place| self.is_stored(&self.blocks[place])).collect();
+        let places = self.stored_places();
         (!places.is_empty()).then(|| random.pick(&places))
     }
 
@@ -351,15 +557,21 @@ impl Draft {
     }
 }
 
+/// Gives a series the key of another.
+pub fn put_key(series: &mut Block, other: &Block) {
+    series[BUSINESS_TYPE..SENDER_SLOT].copy_from_slice(&other[BUSINESS_TYPE..SENDER_SLOT]);
+    series[IN_AREA..MARK].copy_from_slice(&other[IN_AREA..MARK]);
+}
+
 /// The slot of a sender in a book that need not be sound.
 fn slot_of(list: &[&Block], sender: &Field) -> Option<usize> {
     (1..list.len()).find(|&slot| list[slot][KIND] == KIND_SENDER && field(list[slot], SENDER) == *sender)
 }
 
-/// What others filed about trades with a sender.
+/// The internal trades that others filed with a sender.
 fn filed_by_others<'book>(list: &[&'book Block], slot: Option<usize>, sender: &Field) -> Filed<'book> {
     let mut theirs = Filed::new();
-    for &block in list.iter().skip(1).filter(|block| block[KIND] == KIND_SERIES) {
+    for &block in list.iter().skip(1).filter(|block| block[KIND] == KIND_SERIES && is_internal(block)) {
         let parties = pair(block);
         let own = slot == Some(usize::from(u16_at(block, SENDER_SLOT)));
         if !own && (parties.0 == *sender || parties.1 == *sender) {
@@ -404,7 +616,7 @@ fn change(random: &mut Random, series: &mut Block, other: Option<&Block>, first_
 }
 
 cases! {
-    /// Ways to spoil what a message says, in the order of the rules 3 to 17.
+    /// Ways to spoil what a message says, in the order of the rules.
     Fault {
         Receiver,
         SenderEic,
@@ -426,14 +638,22 @@ cases! {
         OutParty,
         EqualParties,
         Strangers,
+        ExternalStrangers,
         InArea,
         OutArea,
+        BothOurs,
+        NoneOurs,
+        OtherArea,
         BusinessType,
         ContractType,
         Agreement,
+        CapacityContract,
+        CapacityAgreement,
         TopBit,
         TooHigh,
         AboveN,
+        NoRight,
+        AboveLimit,
         ClosedChanged,
         ClosedNew,
         SeriesVersionRaised,
@@ -455,12 +675,14 @@ impl Fault {
             Day | DayText | EveryN => 5,
             MessageId | OtherMessageId | VersionSame | VersionLower | VersionBeyond => 6,
             SeriesId | IdTwice | IdSwapped | IdOtherPair | PairTwice | PairRenamed => 7,
-            InParty | OutParty | EqualParties | Strangers => 8,
-            InArea | OutArea => 9,
-            BusinessType | ContractType | Agreement => 10,
+            InParty | OutParty | EqualParties | Strangers | ExternalStrangers => 8,
+            InArea | OutArea | BothOurs | NoneOurs | OtherArea => 9,
+            BusinessType | ContractType | Agreement | CapacityContract | CapacityAgreement => 10,
             TopBit => 11,
             TooHigh => 12,
             AboveN => 13,
+            NoRight => 18,
+            AboveLimit => 19,
             ClosedChanged | ClosedNew => 14,
             SeriesVersionRaised | SeriesVersionKept | SeriesVersionNext | SeriesVersionOdd => 15,
             Absent => 16,
@@ -473,6 +695,38 @@ impl Fault {
         let list: Vec<Fault> = Fault::ALL.iter().copied().filter(|fault| fault.rule() == rule).collect();
         random.pick(&list)
     }
+
+    /// Whether the fault can be made in a series of this business type.
+    fn fits(self, series: &Block) -> bool {
+        use Fault::*;
+        match self {
+            EqualParties | InArea | OutArea => !is_external(series),
+            ExternalStrangers | BothOurs | NoneOurs | OtherArea => is_external(series),
+            ContractType | Agreement => series[BUSINESS_TYPE] != WITH_CAPACITY,
+            CapacityContract | CapacityAgreement | NoRight | AboveLimit => series[BUSINESS_TYPE] == WITH_CAPACITY,
+            _ => true,
+        }
+    }
+
+    /// Some fault that breaks this rule in this series.
+    fn of_rule_in(random: &mut Random, rule: u8, series: &Block) -> Fault {
+        let fits = |fault: &Fault| fault.rule() == rule && fault.fits(series);
+        let list: Vec<Fault> = Fault::ALL.iter().copied().filter(fits).collect();
+        random.pick(&list)
+    }
+}
+
+/// The rules of a message in the order in which they are judged; those from the fifth to the fifteenth at each series.
+pub const ORDER: [u8; 17] = [3, 4, 5, 6, 7, 8, 9, 10, 11, 12, 13, 18, 19, 14, 15, 16, 17];
+
+/// Where a rule stands in the order.
+pub fn place_in_order(rule: u8) -> usize {
+    ORDER.iter().position(|&other| other == rule).expect("a rule of a message")
+}
+
+/// Whether a rule is judged at each series.
+fn is_of_series(rule: u8) -> bool {
+    (place_in_order(7)..=place_in_order(15)).contains(&place_in_order(rule))
 }
 
 impl Draft {
@@ -482,12 +736,28 @@ impl Draft {
         match fault.rule() {
             3..=6 => self.spoil_head(random, fault),
             7 => self.spoil_names(random, fault, any, partners),
+            8 if fault == Fault::EqualParties => {
+                let place = self.new_trade(random, partners);
+                self.spoil_parties(random, fault, place);
+            }
+            8 if fault == Fault::ExternalStrangers => {
+                let place = self.new_external(random, partners);
+                self.spoil_parties(random, fault, place);
+            }
             8 => {
                 let place = self.new_series(random, partners);
                 self.spoil_parties(random, fault, place);
             }
-            9 | 10 => self.spoil_trade(random, fault, any),
+            9 | 10 => {
+                let place = self.place_for(random, fault, any, partners);
+                self.spoil_trade(random, fault, place);
+            }
             11..=13 => self.spoil_quantity(random, fault, any),
+            18 => {
+                let place = self.new_claim(random, partners);
+                self.lose_right(random, place);
+            }
+            19 => self.pass_limit(random, partners),
             14 if fault == Fault::ClosedNew => {
                 let place = self.new_series(random, partners);
                 self.change_closed(random, place);
@@ -499,6 +769,89 @@ impl Draft {
             }
             15 => self.spoil_series_version(random, fault, any),
             _ => self.spoil_whole(random, fault, partners),
+        }
+    }
+
+    /// The place of a series in which a fault of rule 9 or 10 can be made. In one that the book holds it is rule 7.
+    fn place_for(&mut self, random: &mut Random, fault: Fault, any: usize, partners: &[Field]) -> usize {
+        if matches!(fault, Fault::ContractType | Fault::Agreement) && random.percent(50) {
+            self.add_without_capacity(random, partners);
+            return self.blocks.len() - 1;
+        }
+        let fits = |place: usize| fault.fits(&self.blocks[place]);
+        if fits(any) && (!self.is_stored(&self.blocks[any]) || random.percent(20)) {
+            return any;
+        }
+        match fault {
+            Fault::CapacityContract | Fault::CapacityAgreement => self.new_claim(random, partners),
+            Fault::BothOurs | Fault::NoneOurs | Fault::OtherArea => self.new_external(random, partners),
+            _ => self.new_trade(random, partners),
+        }
+    }
+
+    /// Rule 18: the series names what is no right of the sender, nearly one perhaps.
+    fn lose_right(&mut self, random: &mut Random, place: usize) {
+        let series = &mut self.blocks[place];
+        match random.below(4) {
+            0 => turn_round(series),
+            1 => series[CONTRACT_TYPE] = 1 + series[CONTRACT_TYPE] % HIGHEST_CONTRACT_TYPE,
+            2 => {
+                let at = if field(series, IN_AREA) == self.area { OUT_AREA } else { IN_AREA };
+                put_field(series, at, &names::valid_eic(random));
+            }
+            _ => put_field(series, AGREEMENT, &names::id(random)),
+        }
+    }
+
+    /// Rule 19, at a series on one of the sender's rights; one is added if need be. Nothing happens without a right.
+    fn pass_limit(&mut self, random: &mut Random, partners: &[Field]) {
+        let mut places: Vec<usize> = (1..self.blocks.len()).filter(|&place| self.right_of(place).is_some()).collect();
+        if places.is_empty() && !self.rights.is_empty() {
+            let right = random.pick(&self.rights);
+            self.add_claim(random, &right, partners);
+            places.extend(Some(self.blocks.len() - 1).filter(|&place| self.right_of(place).is_some()));
+        }
+        if !places.is_empty() {
+            let place = random.pick(&places);
+            self.pass_limit_at(random, place);
+        }
+    }
+
+    /// Claims one more than is left at some position, an open one if there is any.
+    fn pass_limit_at(&mut self, random: &mut Random, place: usize) {
+        let right = match self.right_of(place) {
+            None => return,
+            Some(right) => right,
+        };
+        let (low, n) = (if random.percent(80) { self.first_open.min(self.n) } else { 1 }, self.n);
+        let (version, any) = (self.version(), random.between(usize::from(low), usize::from(n)) as u16);
+        let position = Position(random.pick(&[low, n, any, any]));
+        let more = if random.percent(70) { 1 } else { names::quantity(random) + 1 };
+        let value = (self.left_of(&right, place, position) + more).min(HIGHEST_QUANTITY);
+        let series = &mut self.blocks[place];
+        put_quantity(series, position, value);
+        put_u16(series, VERSION, version);
+    }
+
+    /// Breaks two rules that follow each other: at one series, where both are judged at a series.
+    pub fn break_two(&mut self, random: &mut Random, lower: u8, higher: u8, any: usize, partners: &[Field]) {
+        if is_of_series(lower) && is_of_series(higher) {
+            let one_is = |such: fn(u8) -> bool| such(lower) || such(higher);
+            let place = if one_is(|rule| rule >= 18) {
+                self.new_claim(random, partners)
+            } else if one_is(|rule| (8..=10).contains(&rule)) {
+                self.new_series(random, partners)
+            } else {
+                any
+            };
+            self.break_rule(random, higher, place);
+            self.break_rule(random, lower, place);
+        } else {
+            for rule in [higher, lower] {
+                let fault = Fault::of_rule(random, rule);
+                let place = any.min(self.blocks.len() - 1);
+                self.spoil(random, fault, place, partners);
+            }
         }
     }
 
@@ -574,9 +927,8 @@ impl Draft {
         self.add_series(random, None, partners, &Filed::new());
         let last = self.blocks.len() - 1;
         if last > 1 && !self.is_stored(&self.blocks[last]) {
-            let (in_party, out_party) = pair(&self.blocks[random.between(1, last - 1)]);
-            put_field(&mut self.blocks[last], IN_PARTY, &in_party);
-            put_field(&mut self.blocks[last], OUT_PARTY, &out_party);
+            let earlier = self.blocks[random.between(1, last - 1)];
+            put_key(&mut self.blocks[last], &earlier);
         }
     }
 
@@ -594,21 +946,48 @@ impl Draft {
                 put_field(series, OUT_PARTY, &party);
             }
             _ => {
-                put_field(series, IN_PARTY, &names::valid_eic(random));
-                put_field(series, OUT_PARTY, &names::valid_eic(random));
+                let (party, other) = (names::valid_eic(random), names::valid_eic(random));
+                let equal = fault == Fault::ExternalStrangers && random.percent(70);
+                put_field(series, IN_PARTY, &party);
+                put_field(series, OUT_PARTY, if equal { &party } else { &other });
             }
         }
     }
 
     /// Rules 9 and 10.
     fn spoil_trade(&mut self, random: &mut Random, fault: Fault, place: usize) {
+        let area = self.area;
         let series = &mut self.blocks[place];
         match fault {
             Fault::InArea if random.percent(50) => put_field(series, IN_AREA, &names::invalid_eic(random)),
             Fault::InArea => put_field(series, IN_AREA, &names::valid_eic(random)),
-            Fault::OutArea => put_field(series, OUT_AREA, &names::invalid_eic(random)),
-            Fault::BusinessType => series[BUSINESS_TYPE] = random.pick(&[0, 1, 3, 255]),
-            Fault::ContractType => series[CONTRACT_TYPE] = random.between(1, 255) as u8,
+            Fault::OutArea if random.percent(50) => put_field(series, OUT_AREA, &names::invalid_eic(random)),
+            Fault::OutArea => put_field(series, OUT_AREA, &names::valid_eic(random)),
+            Fault::BothOurs => {
+                put_field(series, IN_AREA, &area);
+                put_field(series, OUT_AREA, &area);
+            }
+            Fault::NoneOurs => {
+                let at = if field(series, IN_AREA) == area { IN_AREA } else { OUT_AREA };
+                put_field(series, at, &names::valid_eic(random));
+            }
+            Fault::OtherArea => {
+                let at = if field(series, IN_AREA) == area { OUT_AREA } else { IN_AREA };
+                put_field(series, at, &names::invalid_eic(random));
+            }
+            Fault::BusinessType => {
+                // Any other type is judged like an internal trade's, so it needs areas and parties of one.
+                series[BUSINESS_TYPE] = random.pick(&[0, 1, 4, 5, 7, 255]);
+                if random.percent(80) {
+                    put_field(series, IN_AREA, &area);
+                    put_field(series, OUT_AREA, &area);
+                }
+            }
+            Fault::ContractType => series[CONTRACT_TYPE] = random.pick(&[1, 99, 100, 255]),
+            Fault::CapacityContract => series[CONTRACT_TYPE] = random.pick(&[0, 100, 128, 255]),
+            Fault::CapacityAgreement if random.percent(30) => put_field(series, AGREEMENT, &[0; 16]),
+            Fault::CapacityAgreement => put_field(series, AGREEMENT, &names::malformed_id(random)),
+            _ if random.percent(50) => put_field(series, AGREEMENT, &names::id(random)),
             _ => series[AGREEMENT + random.below(16)] = random.between(1, 255) as u8,
         }
     }
@@ -698,12 +1077,12 @@ impl Draft {
         let high = random.between(low + 1, n);
         let bad = random.pick(&[Fault::TopBit, Fault::TooHigh]);
         let last_closed = usize::from(self.first_open) - 1;
-        match random.below(4) {
+        match random.below(5) {
             0 if n < POSITIONS => {
                 self.spoil_quantity_at(random, bad, place, low);
                 self.spoil_quantity(random, Fault::AboveN, place);
             }
-            1 if last_closed > 0 => {
+            1 | 4 if last_closed > 0 => {
                 let closed = random.between(1, last_closed.min(n - 1));
                 let above = random.between(closed + 1, n);
                 self.change_at(place, closed);
@@ -724,7 +1103,7 @@ impl Draft {
     }
 
     /// A series breaks a rule, and a later series an earlier one. The first series decides: it passes
-    /// all of 7 to 15 before the next begins.
+    /// all rules of a series before the next begins.
     pub fn break_out_of_order(&mut self, random: &mut Random, partners: &[Field]) {
         while self.blocks.len() < 3 {
             self.add_series(random, None, partners, &Filed::new());
@@ -733,33 +1112,43 @@ impl Draft {
         let second = random.between(first + 1, self.blocks.len() - 1);
         let (earlier, later) = (self.rules_at(second), self.rules_at(first));
         let rule = random.pick(&later[1..]);
-        let before: Vec<u8> = earlier.into_iter().filter(|&other| other < rule).collect();
+        let is_before = |other: &u8| place_in_order(*other) < place_in_order(rule);
+        let before: Vec<u8> = earlier.into_iter().filter(is_before).collect();
         self.break_rule(random, rule, first);
         let lower = random.pick(&before);
         self.break_rule(random, lower, second);
     }
 
-    /// The rules among 7 to 15 that can be broken at this series, ascending.
+    /// The rules of a series that can be broken at this one, in their order.
     fn rules_at(&self, place: usize) -> Vec<u8> {
+        let series = &self.blocks[place];
         let can = |rule: u8| match rule {
-            8 => !self.is_stored(&self.blocks[place]),
+            8 | 9 | 10 => !self.is_stored(series),
             13 => usize::from(self.n) < POSITIONS,
+            18 => !self.is_stored(series) && series[BUSINESS_TYPE] == WITH_CAPACITY,
+            19 => self.right_of(place).is_some(),
             14 => self.first_open > 1,
-            _ => true,
+            _ => is_of_series(rule),
         };
-        (7..=15).filter(|&rule| can(rule)).collect()
+        ORDER.into_iter().filter(|&rule| is_of_series(rule) && can(rule)).collect()
     }
 
-    /// Breaks one of the rules 7 to 15 at this series.
-    fn break_rule(&mut self, random: &mut Random, rule: u8, place: usize) {
-        let fault = Fault::of_rule(random, rule);
+    /// Breaks one of the rules of a series at this one.
+    pub fn break_rule(&mut self, random: &mut Random, rule: u8, place: usize) {
         match rule {
             7 => put_field(&mut self.blocks[place], ID, &names::malformed_id(random)),
-            8 => self.spoil_parties(random, fault, place),
-            9 | 10 => self.spoil_trade(random, fault, place),
             14 => self.change_closed(random, place),
             15 => self.spoil_series_version(random, Fault::SeriesVersionOdd, place),
-            _ => self.spoil_quantity(random, fault, place),
+            18 => self.lose_right(random, place),
+            19 => self.pass_limit_at(random, place),
+            _ => {
+                let fault = Fault::of_rule_in(random, rule, &self.blocks[place]);
+                match rule {
+                    8 => self.spoil_parties(random, fault, place),
+                    9 | 10 => self.spoil_trade(random, fault, place),
+                    _ => self.spoil_quantity(random, fault, place),
+                }
+            }
         }
     }
 }
@@ -828,6 +1217,7 @@ impl Draft {
                 put_u16(&mut self.blocks[0], COUNT, blocks as u16 - 1);
             }
             FormFault::FirstKind => self.blocks[0][KIND] = random.pick(&[0, 2, 3, 255]),
+            FormFault::LaterKind if random.percent(80) => self.blocks[any][KIND] = KIND_RIGHT,
             FormFault::LaterKind => self.blocks[any][KIND] = random.pick(&[0, 1, 3, 255]),
             FormFault::Count => {
                 let count = u16_at(&self.blocks[0], COUNT);
@@ -885,7 +1275,8 @@ mod tests {
         assert_eq!(crate::day::open(&mut book, 96, 45, b"20190131", &area, &receiver), (0, 0));
         for _ in 0..300 {
             for (&fault, &clause) in FormFault::ALL.iter().zip(MessageClause::ALL) {
-                let growth = Growth { new: New::UpTo(4), changed: 50, side: None, version: Version::Lawful };
+                let growth =
+                    Growth { new: New::UpTo(4), changed: 50, side: None, external: 30, version: Version::Lawful };
                 let draft = Draft::lawful(&mut random, &book, partners[0], &partners, &growth);
                 let message = draft.finished(&mut random, &[fault]);
                 assert_eq!(broken_clauses(&message), clause.bit(), "{fault:?}");

@@ -19,6 +19,7 @@ use crate::plain_rule;
 use crate::quantity_text;
 use crate::random::Random;
 use crate::readings::{accepted_block, final_value, mark_of, plain_run};
+use crate::right::enter;
 use crate::sound::{is_sound, MOST_BLOCKS};
 use crate::stream::Record;
 use crate::submission::{self, judge, Verdict};
@@ -67,6 +68,23 @@ pub const EXAMPLES: &[Example] = &[
     ("looks in the answer line", looks_in_lines),
     ("partners at both ends of a book", partners_at_both_ends),
     ("partners in a full book", partners_in_full_book),
+    ("entering rights", entered_rights),
+    ("blocks that are no rights", malformed_rights),
+    ("where a right stands", slots_of_rights),
+    ("series on rights", series_on_rights),
+    ("several series on one right", sums_on_rights),
+    ("whose right", whose_right),
+    ("what a kept id is known by", known_keys),
+    ("areas and capacity of a series", areas_and_capacity),
+    ("parties of an external schedule", external_parties),
+    ("nets of external schedules", external_nets),
+    ("external schedules are alone", external_marks),
+    ("finals of internal trades only", external_finals),
+    ("the place of rules 18 and 19", order_of_rights),
+    ("a trade does not turn external", turned_trades),
+    ("rights in a sound book", rights_in_sound_books),
+    ("external schedules converted", converted_externals),
+    ("rights in the answer line", rights_in_lines),
 ];
 
 fn same<T: PartialEq + Debug>(what: &str, found: T, expected: T) -> Outcome {
@@ -314,7 +332,8 @@ fn raised_after_refusal() -> Outcome {
     put_field(&mut foreign, IN_AREA, RECEIVER_CODE);
     for version in [3, 4] {
         let mut copy = book.clone();
-        same("refused", answer(submit(&mut copy, &message(SELLER, 3, 96, &[foreign]))), (9, 23, 1, 0))?;
+        // Since C-14 the area belongs to what a kept id is known by.
+        same("refused", answer(submit(&mut copy, &message(SELLER, 3, 96, &[foreign]))), (7, 55, 1, 0))?;
         same("the book", copy == book, true)?;
         let list = [series("TS0001", BUYER, SELLER, version, 96, 50_000)];
         same("put right", answer(submit(&mut copy, &message(SELLER, version, 96, &list))), ACCEPTED)?;
@@ -466,7 +485,8 @@ fn codes() -> Outcome {
     same("acceptance", reason_code(0), 1)?;
     same("no quantity", reason_code(30), 42)?;
     same("negative", reason_code(31), 46)?;
-    same("others", [18, 20, 21, 22, 23, 24, 25, 26, 32, 33, 255].iter().all(|&number| reason_code(number) == 0), true)
+    same("no right, and above its limit", [18, 19].map(reason_code), [59, 59])?;
+    same("others", [20, 21, 22, 23, 24, 25, 26, 32, 33, 40, 255].iter().all(|&number| reason_code(number) == 0), true)
 }
 
 fn printed_listing() -> Outcome {
@@ -494,7 +514,7 @@ fn printed_listing() -> Outcome {
         [vec![-45_000; 96], vec![0]].concat(),
     )?;
     same("the buyer's net at 2", nets(block_at(&book, 3)).nth(1), Some(44_000))?;
-    let found = plain_rule::matching(&[sold, bought]);
+    let found = plain_rule::matching(&[sold, bought], AREA_CODE);
     let mark = found.marks[&(*SELLER, name("TS0001"))];
     same("the plain rule", (mark.differ, mark.first, mark.partner), (1, Position(2), Some((*BUYER, name("FPL01")))))?;
     same("the plain net", found.nets[BUYER][1], 44_000)?;
@@ -966,6 +986,466 @@ fn partners_in_full_book() -> Outcome {
     let no_room = message(&late, 1, 96, &[series("A", BUYER, &late, 1, 96, 1)]);
     same("no room for one more", looked(&mut book, &no_room), (17, 0))?;
     same("the plain run", plain_run(&book), (0, true))
+}
+
+/// Areas of neighbours.
+const NEIGHBOUR: &[u8; 16] = b"10YCZ-CEPS-----N";
+const OTHER_NEIGHBOUR: &[u8; 16] = b"10YHU-MAVIR----U";
+
+/// Document 02, C-14: a right to bring in from the neighbour, the same limit throughout.
+fn right(holder: &Field, limit: u32) -> Block {
+    let mut block = series("", holder, holder, 0, 96, limit);
+    block[KIND] = KIND_RIGHT;
+    block[BUSINESS_TYPE] = WITH_CAPACITY;
+    block[CONTRACT_TYPE] = 1;
+    put_field(&mut block, OUT_AREA, NEIGHBOUR);
+    put_field(&mut block, AGREEMENT, b"CEPS-APG-D-14356");
+    seal(&mut block);
+    block
+}
+
+/// A block with other bytes from a place on, its check put right.
+fn with(block: &Block, at: usize, bytes: &[u8]) -> Block {
+    let mut other = *block;
+    other[at..at + bytes.len()].copy_from_slice(bytes);
+    seal(&mut other);
+    other
+}
+
+/// An external schedule on the seller's right, the seller being both parties.
+fn on_right(id: &str, version: u16, value: u32) -> Block {
+    let mut block = series(id, SELLER, SELLER, version, 96, value);
+    block[BUSINESS_TYPE] = WITH_CAPACITY;
+    block[CONTRACT_TYPE] = 1;
+    put_field(&mut block, OUT_AREA, NEIGHBOUR);
+    put_field(&mut block, AGREEMENT, b"CEPS-APG-D-14356");
+    block
+}
+
+/// The same without capacity.
+fn without_capacity(id: &str, version: u16, value: u32) -> Block {
+    let mut block = series(id, SELLER, SELLER, version, 96, value);
+    block[BUSINESS_TYPE] = WITHOUT_CAPACITY;
+    put_field(&mut block, OUT_AREA, NEIGHBOUR);
+    block
+}
+
+/// A book of ten blocks with these rights.
+fn book_with(rights: &[Block]) -> Result<Vec<u8>, String> {
+    let mut book = opened(10, 96, 45);
+    for block in rights {
+        same("entering", enter(&mut book, block), 0)?;
+    }
+    Ok(book)
+}
+
+/// What the seller's first message with these series is answered.
+fn filed(book: &[u8], list: &[Block]) -> (u8, u8, u16, u16) {
+    answer(judge(book, &message(SELLER, 1, 96, list)))
+}
+
+fn entered_rights() -> Outcome {
+    let held = right(SELLER, 5_000);
+    let mut book = opened(10, 96, 45);
+    let empty = book.clone();
+    same("a right", enter(&mut book, &held), 0)?;
+    same("its slot", block_at(&book, 1) == &held, true)?;
+    same("all else", book[..512] == empty[..512] && book[1_024..] == empty[1_024..], true)?;
+    let before = book.clone();
+    same("the same again", enter(&mut book, &held), 40)?;
+    same("with another limit", enter(&mut book, &right(SELLER, 6_000)), 40)?;
+    same("the book", book == before, true)?;
+    let turned = with(&with(&held, IN_AREA, NEIGHBOUR), OUT_AREA, AREA_CODE);
+    for (what, other) in [
+        ("another holder", right(BUYER, 5_000)),
+        ("the other direction", turned),
+        ("another area", with(&held, OUT_AREA, OTHER_NEIGHBOUR)),
+        ("another contract type", with(&held, CONTRACT_TYPE, &[99])),
+        ("another agreement", with(&held, AGREEMENT, &name("A"))),
+    ] {
+        same(what, enter(&mut book, &other), 0)?;
+        same(what, enter(&mut book, &other), 40)?;
+    }
+    same("soundness", is_sound(&book), true)?;
+    same("clock", move_clock(&mut book, Minute(DAY_START + 1_500)).0, 0)?;
+    same("when all is closed", enter(&mut book, &with(&held, CONTRACT_TYPE, &[2])), 0)?;
+    book[9] ^= 1;
+    same("not sound", enter(&mut book, &held), 1)
+}
+
+fn malformed_rights() -> Outcome {
+    let held = right(SELLER, 5_000);
+    let book = opened(10, 96, 45);
+    let limit = |value: u32| value.to_le_bytes();
+    for (at, bytes, expected) in [
+        (KIND, &[2][..], 40),
+        (KIND, &[3], 40),
+        (N, &[92], 40),
+        (VERSION, &[1], 40),
+        (BUSINESS_TYPE, &[2], 40),
+        (BUSINESS_TYPE, &[6], 40),
+        (CONTRACT_TYPE, &[0], 40),
+        (CONTRACT_TYPE, &[100], 40),
+        (CONTRACT_TYPE, &[99], 0),
+        (SENDER_SLOT, &[1], 40),
+        (ID, &name("A"), 40),
+        (OUT_AREA, AREA_CODE, 40),
+        (IN_AREA, OTHER_NEIGHBOUR, 40),
+        (OUT_AREA, b"10YCZ-CEPS-----M", 40),
+        (HOLDER, BUYER, 40),
+        (OUT_PARTY, BUYER, 40),
+        (AGREEMENT, &[0; 16], 40),
+        (AGREEMENT, b"CEPS_APG-D-14356", 40),
+        (AGREEMENT, SELLER, 0),
+        (MARK, &[1], 40),
+        (VALUES, &limit(9_999_999), 0),
+        (VALUES, &limit(10_000_000), 40),
+        (VALUES + 4 * 95, &limit(1 << 31), 40),
+        (VALUES + 4 * 96, &limit(1), 40),
+    ] {
+        same(&format!("byte {at}"), enter(&mut book.clone(), &with(&held, at, bytes)), expected)?;
+    }
+    let nobody = with(&with(&held, HOLDER, b"14XBILANZGR-1--G"), OUT_PARTY, b"14XBILANZGR-1--G");
+    same("no holder", enter(&mut book.clone(), &nobody), 40)?;
+    let mut wrong = held;
+    wrong[511] ^= 1;
+    same("a wrong check", enter(&mut book.clone(), &wrong), 40)?;
+    for length in [0, 511, 513, 1_024] {
+        same(&format!("{length} bytes"), enter(&mut book.clone(), &[held, held].concat()[..length]), 40)?;
+    }
+    same("512 bytes", enter(&mut book.clone(), &[held, held].concat()[..512]), 0)
+}
+
+/// A right takes the lowest free slot, and a message those behind it.
+fn slots_of_rights() -> Outcome {
+    let mut book = opened(5, 96, 45);
+    let sold = message(SELLER, 1, 96, &[series("S", BUYER, SELLER, 1, 96, 1)]);
+    same("a right", enter(&mut book, &right(OTHER, 1)), 0)?;
+    same("a message", looked(&mut book, &sold), (0, 3))?;
+    same("a right behind it", enter(&mut book, &right(SELLER, 1)), 0)?;
+    let kinds: Vec<u8> = blocks(&book).map(|block| block[KIND]).collect();
+    same("the blocks", kinds, vec![3, 4, 1, 2, 4])?;
+    let before = book.clone();
+    same("no slot is free", enter(&mut book, &right(BUYER, 1)), 17)?;
+    same("it stands there", enter(&mut book, &right(SELLER, 2)), 40)?;
+    same("no right at all", enter(&mut book, &[]), 40)?;
+    same("the book", book == before, true)?;
+    let more = [series("S", BUYER, SELLER, 1, 96, 1), on_right("T", 2, 1)];
+    same("no room", answer(submit(&mut book, &message(SELLER, 2, 96, &more))), (17, 0, 0, 0))
+}
+
+fn series_on_rights() -> Outcome {
+    let book = book_with(&[right(SELLER, 5_000)])?;
+    let empty = opened(10, 96, 45);
+    same("no right", filed(&empty, &[on_right("A", 1, 1)]), (18, 59, 1, 0))?;
+    same("no right, and nothing on it", filed(&empty, &[on_right("A", 1, 0)]), (18, 59, 1, 0))?;
+    same("without capacity", filed(&empty, &[without_capacity("A", 1, 9_999_999)]), ACCEPTED)?;
+    same("up to the limit", filed(&book, &[on_right("A", 1, 5_000)]), ACCEPTED)?;
+    same("above it", filed(&book, &[on_right("A", 1, 5_001)]), (19, 59, 1, 1))?;
+    let mut once = on_right("A", 1, 5_000);
+    put_quantity(&mut once, Position(96), 5_001);
+    same("above it at the end", filed(&book, &[series("S", BUYER, SELLER, 1, 96, 1), once]), (19, 59, 2, 96))?;
+    for (what, at, bytes) in [
+        ("another contract type", CONTRACT_TYPE, &[2][..]),
+        ("another area", OUT_AREA, OTHER_NEIGHBOUR),
+        ("another agreement", AGREEMENT, b"CEPS-APG-D-14357"),
+    ] {
+        same(what, filed(&book, &[with(&on_right("A", 1, 0), at, bytes)]), (18, 59, 1, 0))?;
+    }
+    let turned = with(&with(&on_right("A", 1, 0), IN_AREA, NEIGHBOUR), OUT_AREA, AREA_CODE);
+    same("the other direction", filed(&book, &[turned]), (18, 59, 1, 0))?;
+    same("other parties", filed(&book, &[with(&on_right("A", 1, 5_000), OUT_PARTY, BUYER)]), ACCEPTED)
+}
+
+fn sums_on_rights() -> Outcome {
+    let mut book = book_with(&[right(SELLER, 5_000), with(&right(SELLER, 5_000), CONTRACT_TYPE, &[2])])?;
+    let second = |version, value| with(&on_right("B", version, value), OUT_PARTY, BUYER);
+    let third = |value| with(&on_right("C", 1, value), IN_PARTY, OTHER);
+    let elsewhere = with(&on_right("D", 1, 5_000), CONTRACT_TYPE, &[2]);
+    same("two", filed(&book, &[on_right("A", 1, 2_000), second(1, 3_000)]), ACCEPTED)?;
+    same("two above", filed(&book, &[on_right("A", 1, 2_000), second(1, 3_001)]), (19, 59, 2, 1))?;
+    let three = |value| [on_right("A", 1, 2_000), elsewhere, second(1, 2_000), third(value)];
+    same("three, and one elsewhere", filed(&book, &three(1_000)), ACCEPTED)?;
+    same("the third above", filed(&book, &three(1_001)), (19, 59, 4, 1))?;
+    // What is kept counts as it stands in the message.
+    let list = [on_right("A", 1, 2_000), second(1, 3_000)];
+    same("filed", answer(submit(&mut book, &message(SELLER, 1, 96, &list))), ACCEPTED)?;
+    let list = [on_right("A", 2, 1_000), second(2, 4_000)];
+    same("moved", answer(submit(&mut book, &message(SELLER, 2, 96, &list))), ACCEPTED)?;
+    let list = [on_right("A", 2, 1_000), second(3, 4_001)];
+    same("one more", answer(submit(&mut book, &message(SELLER, 3, 96, &list))), (19, 59, 2, 1))
+}
+
+fn whose_right() -> Outcome {
+    let book = book_with(&[right(BUYER, 9_000), right(SELLER, 5_000), right(OTHER, 1_000)])?;
+    same("within one's own", filed(&book, &[on_right("A", 1, 5_000)]), ACCEPTED)?;
+    same("above one's own", filed(&book, &[on_right("A", 1, 5_001)]), (19, 59, 1, 1))?;
+    let book = book_with(&[right(BUYER, 9_000)])?;
+    let with_holder = with(&on_right("A", 1, 1), OUT_PARTY, BUYER);
+    same("another's", filed(&book, &[with_holder]), (18, 59, 1, 0))
+}
+
+fn known_keys() -> Outcome {
+    let mut book = book_with(&[right(SELLER, 5_000)])?;
+    let list = [series("S", BUYER, SELLER, 1, 96, 1), on_right("A", 1, 1), without_capacity("B", 1, 1)];
+    same("filed", answer(submit(&mut book, &message(SELLER, 1, 96, &list))), ACCEPTED)?;
+    let parts: [(usize, &[u8]); 7] = [
+        (BUSINESS_TYPE, &[4]),
+        (CONTRACT_TYPE, &[5]),
+        (IN_AREA, OTHER_NEIGHBOUR),
+        (OUT_AREA, OTHER_NEIGHBOUR),
+        (IN_PARTY, OTHER),
+        (OUT_PARTY, OTHER),
+        (AGREEMENT, &name("X")),
+    ];
+    for (at, bytes) in parts {
+        for number in 0..3 {
+            let mut other = list;
+            other[number] = with(&other[number], at, bytes);
+            let verdict = judge(&book, &message(SELLER, 2, 96, &other));
+            same(&format!("byte {at}"), answer(verdict), (7, 55, number as u16 + 1, 0))?;
+        }
+    }
+    let renamed = with(&on_right("C", 2, 1), OUT_PARTY, SELLER);
+    let verdict = judge(&book, &message(SELLER, 2, 96, &[list[0], renamed, list[2]]));
+    same("kept under another id", answer(verdict), (7, 55, 2, 0))?;
+    let twice = [on_right("A", 1, 1), on_right("B", 1, 1)];
+    same("twice in a message", filed(&book_with(&[right(SELLER, 5_000)])?, &twice), (7, 55, 2, 0))?;
+    // One pair, told apart by what else belongs to the key.
+    let trade = series("S", BUYER, SELLER, 1, 96, 1);
+    let foreign = with(&series("T", BUYER, SELLER, 1, 96, 1), OUT_AREA, NEIGHBOUR);
+    same("another area", filed(&opened(10, 96, 45), &[trade, foreign]), (9, 23, 2, 0))?;
+    let external = with(&with(&without_capacity("T", 1, 1), IN_PARTY, BUYER), OUT_PARTY, SELLER);
+    same("an external schedule", filed(&opened(10, 96, 45), &[trade, external]), ACCEPTED)
+}
+
+fn areas_and_capacity() -> Outcome {
+    let book = book_with(&[right(SELLER, 5_000)])?;
+    let (trade, with_right, without) =
+        (series("S", BUYER, SELLER, 1, 96, 1), on_right("S", 1, 1), without_capacity("S", 1, 1));
+    for (what, block, at, bytes, expected) in [
+        ("A02 with a foreign area", &trade, IN_AREA, &NEIGHBOUR[..], 9),
+        ("A06 with both areas ours", &without, OUT_AREA, AREA_CODE, 9),
+        ("A03 with both areas ours", &with_right, OUT_AREA, AREA_CODE, 9),
+        ("A06 with no area ours", &without, IN_AREA, OTHER_NEIGHBOUR, 9),
+        ("A06 with no EIC", &without, OUT_AREA, b"10YCZ-CEPS-----M", 9),
+        ("an A02 turned A06", &trade, BUSINESS_TYPE, &[6], 9),
+        ("an A06 turned A02", &with(&without, OUT_PARTY, BUYER), BUSINESS_TYPE, &[2], 9),
+        ("another type", &trade, BUSINESS_TYPE, &[4], 10),
+        ("A02 with a contract type", &trade, CONTRACT_TYPE, &[1], 10),
+        ("A06 with a contract type", &without, CONTRACT_TYPE, &[1], 10),
+        ("A06 with an agreement", &without, AGREEMENT, b"CEPS-APG-D-14356", 10),
+        ("A03 without a contract type", &with_right, CONTRACT_TYPE, &[0], 10),
+        ("A03 with contract type 100", &with_right, CONTRACT_TYPE, &[100], 10),
+        ("A03 without an agreement", &with_right, AGREEMENT, &[0; 16], 10),
+        ("A03 with a malformed agreement", &with_right, AGREEMENT, b"CEPS_APG-D-14356", 10),
+    ] {
+        let code = if expected == 9 { 23 } else { 62 };
+        same(what, filed(&book, &[with(block, at, bytes)]), (expected, code, 1, 0))?;
+    }
+    Ok(())
+}
+
+fn external_parties() -> Outcome {
+    let book = book_with(&[right(SELLER, 5_000)])?;
+    let good: &Field = BUYER;
+    for block in [on_right("A", 1, 1), without_capacity("A", 1, 1)] {
+        let parties = |in_party: &Field, out_party: &Field| {
+            let verdict =
+                judge(&book, &message(SELLER, 1, 96, &[with(&with(&block, IN_PARTY, in_party), OUT_PARTY, out_party)]));
+            (verdict.number(), verdict.character)
+        };
+        same("the sender twice", parties(SELLER, SELLER), (0, 0))?;
+        same("the sender in", parties(SELLER, good), (0, 0))?;
+        same("the sender out", parties(good, SELLER), (0, 0))?;
+        same("two others", parties(good, OTHER), (8, 0))?;
+        same("another twice", parties(good, good), (8, 0))?;
+        same("no EIC", parties(SELLER, b"14XBG_EMPFANG--0"), (8, 6))?;
+    }
+    Ok(())
+}
+
+fn external_nets() -> Outcome {
+    let turned = |block: &Block| with(&with(block, IN_AREA, NEIGHBOUR), OUT_AREA, AREA_CODE);
+    for parties in [(SELLER, SELLER), (SELLER, BUYER), (BUYER, SELLER)] {
+        let put = |block: &Block| with(&with(block, IN_PARTY, parties.0), OUT_PARTY, parties.1);
+        let mut book = book_with(&[right(SELLER, 5_000)])?;
+        let list = [
+            put(&on_right("A", 1, 1_000)),
+            put(&without_capacity("B", 1, 200)),
+            put(&turned(&without_capacity("C", 1, 30))),
+            series("S", BUYER, SELLER, 1, 96, 4),
+        ];
+        let sent = message(SELLER, 1, 96, &list);
+        same("filed", answer(submit(&mut book, &sent)), ACCEPTED)?;
+        same("the net", nets(block_at(&book, 2)).take(97).collect::<Vec<_>>(), [vec![1_166; 96], vec![0]].concat())?;
+        same("the plain run", plain_run(&book), (0, true))?;
+        same("the plain rule", plain_rule::matching(&[sent], AREA_CODE).nets[SELLER][95], 1_166)?;
+    }
+    Ok(())
+}
+
+/// Both sides file one pair: as an internal trade, as an external schedule.
+fn external_marks() -> Outcome {
+    let outward = |id: &str| with(&with(&without_capacity(id, 1, 5), IN_PARTY, BUYER), OUT_PARTY, SELLER);
+    let trade = |id: &str| series(id, BUYER, SELLER, 1, 96, 5);
+    for (sold, bought, partner_of_sold) in [
+        (vec![trade("S")], vec![outward("B")], 0),
+        (vec![outward("S")], vec![trade("B")], 0),
+        (vec![outward("S")], vec![outward("B")], 0),
+        (vec![trade("S"), outward("T")], vec![outward("A"), trade("B")], 6),
+    ] {
+        let mut book = opened(10, 96, 45);
+        same("the seller", answer(submit(&mut book, &message(SELLER, 1, 96, &sold))), ACCEPTED)?;
+        same("the buyer", answer(submit(&mut book, &message(BUYER, 1, 96, &bought))), ACCEPTED)?;
+        same("the seller's partner", partner(&book, SELLER, "S"), (0, partner_of_sold))?;
+        same("the buyer's", partner(&book, BUYER, "B"), (0, if partner_of_sold == 0 { 0 } else { 2 }))?;
+        for (slot, block) in blocks(&book).enumerate().filter(|(_, block)| block[KIND] == KIND_SERIES) {
+            let alone = block[MARK..VALUES] == [0; 4];
+            same(&format!("the mark in slot {slot}"), alone || block[BUSINESS_TYPE] == INTERNAL_TRADE, true)?;
+        }
+        same("the plain run", plain_run(&book), (0, true))?;
+    }
+    Ok(())
+}
+
+fn external_finals() -> Outcome {
+    let outward = with(&with(&without_capacity("X", 1, 7), IN_PARTY, BUYER), OUT_PARTY, SELLER);
+    let own = without_capacity("Y", 1, 9);
+    for (list, expected) in
+        [(vec![outward, own], (26, 0)), (vec![outward, own, series("S", BUYER, SELLER, 1, 96, 5)], (0, 5))]
+    {
+        let mut book = opened_by(SELLERS_RULE);
+        same("filed", answer(submit(&mut book, &message(SELLER, 1, 96, &list))), ACCEPTED)?;
+        same("clock", move_clock(&mut book, Minute(DAY_START + 16)).0, 0)?;
+        same("the final", final_value(&book, SELLER, BUYER, Position(5)), expected)?;
+        same("equal parties", final_value(&book, SELLER, SELLER, Position(5)), (26, 0))?;
+    }
+    Ok(())
+}
+
+/// After 13, before 14.
+fn order_of_rights() -> Outcome {
+    let mut book = book_with(&[right(SELLER, 5_000)])?;
+    let lost = |value| with(&on_right("A", 1, value), CONTRACT_TYPE, &[2]);
+    let put = |block: &Block, position: u16, value: u32| {
+        let mut other = *block;
+        put_quantity(&mut other, Position(position), value);
+        other
+    };
+    same("10 before 18", filed(&book, &[with(&lost(0), AGREEMENT, &[0; 16])]), (10, 62, 1, 0))?;
+    same("11 before 18", filed(&book, &[put(&lost(0), 96, 1 << 31)]), (11, 46, 1, 96))?;
+    same("12 before 18", filed(&book, &[put(&lost(0), 96, 10_000_000)]), (12, 42, 1, 96))?;
+    same("13 before 18", filed(&book, &[put(&lost(0), 97, 1)]), (13, 49, 1, 97))?;
+    same("13 before 19", filed(&book, &[put(&on_right("A", 1, 5_001), 97, 1)]), (13, 49, 1, 97))?;
+    same("18 before 15", filed(&book, &[with(&lost(0), VERSION, &[2])]), (18, 59, 1, 0))?;
+    same("19 before 15", filed(&book, &[with(&on_right("A", 1, 5_001), VERSION, &[2])]), (19, 59, 1, 1))?;
+    same("clock", move_clock(&mut book, Minute(DAY_START + 16)).0, 0)?;
+    same("18 before 14", filed(&book, &[lost(1)]), (18, 59, 1, 0))?;
+    let late = put(&on_right("A", 1, 0), 1, 1);
+    same("14", filed(&book, &[late]), (14, 57, 1, 1))?;
+    same("19 before 14", filed(&book, &[put(&late, 96, 5_001)]), (19, 59, 1, 96))?;
+    // A series passes all of its rules before the next begins.
+    let malformed = with(&on_right("B", 1, 0), ID, &[0; 16]);
+    same("19 before the next series", filed(&book, &[put(&on_right("A", 1, 0), 96, 5_001), malformed]), (19, 59, 1, 96))
+}
+
+/// An id is tied to its type: else a final that was given could be taken away.
+fn turned_trades() -> Outcome {
+    let mut book = closed_book(SELLERS_RULE, Some(45_000), None)?;
+    let given = final_value(&book, SELLER, BUYER, Position(5));
+    same("given", given, (0, 45_000))?;
+    let outward = with(&with(&without_capacity("S", 1, 45_000), IN_PARTY, BUYER), OUT_PARTY, SELLER);
+    same("turned", answer(submit(&mut book, &message(SELLER, 2, 96, &[outward]))), (7, 55, 1, 0))?;
+    same("the final", final_value(&book, SELLER, BUYER, Position(5)), given)
+}
+
+fn rights_in_sound_books() -> Outcome {
+    let mut book = book_with(&[right(SELLER, 5_000), right(BUYER, 5_000)])?;
+    let filed = message(SELLER, 1, 96, &[on_right("A", 1, 5_000), without_capacity("B", 1, 1)]);
+    same("filed", answer(submit(&mut book, &filed)), ACCEPTED)?;
+    let put = |slot: usize, at: usize, bytes: &[u8]| {
+        let mut other = book.clone();
+        *block_at_mut(&mut other, slot) = with(block_at(&book, slot), at, bytes);
+        is_sound(&other)
+    };
+    same("soundness", is_sound(&book), true)?;
+    same("a lower limit than is claimed", put(1, VALUES, &[0; 4]), true)?;
+    same("no such right", put(1, CONTRACT_TYPE, &[7]), true)?;
+    same("a right with a version", put(1, VERSION, &[1]), false)?;
+    same(
+        "two alike but for their limits",
+        {
+            let mut other = book.clone();
+            *block_at_mut(&mut other, 2) = right(SELLER, 4_000);
+            is_sound(&other)
+        },
+        false,
+    )?;
+    same("any mark of an external schedule", put(4, MARK, &[96, 96, 5, 0]), true)?;
+    same("a right's slot as partner", put(4, PARTNER, &[1, 0]), false)?;
+    same("a right's slot as sender's", put(4, SENDER_SLOT, &[1, 0]), false)?;
+    same("A03 without an agreement", put(4, AGREEMENT, &[0; 16]), false)?;
+    same("A06 with both areas ours", put(5, OUT_AREA, AREA_CODE), false)?;
+    same(
+        "one key twice",
+        {
+            let mut other = book.clone();
+            *block_at_mut(&mut other, 5) = with(block_at(&book, 4), ID, &name("B"));
+            is_sound(&other)
+        },
+        false,
+    )?;
+    let lines = listing(&book).iter().filter(|&&byte| byte == b'\n').count();
+    same("lines of the listing", lines, 3)
+}
+
+fn converted_externals() -> Outcome {
+    let mut book = book_with(&[right(SELLER, 5_000)])?;
+    let filed = message(SELLER, 1, 96, &[on_right("A", 1, 5_000), series("S", BUYER, SELLER, 1, 96, 1)]);
+    same("filed", answer(submit(&mut book, &filed)), ACCEPTED)?;
+    let old = with_byte_104(&with_byte_104(&book, 3, 1), 4, 1);
+    let mut converted = old.clone();
+    same("the old book", (convert(&mut converted), converted == book), (0, true))?;
+    let mut wrong = with_byte_104(&old, 3, 3);
+    *block_at_mut(&mut wrong, 3) = with(block_at(&wrong, 3), FIRST, &[9, 4, 0]);
+    put_nets(block_at_mut(&mut wrong, 2), &[0; POSITIONS]);
+    seal(block_at_mut(&mut wrong, 2));
+    same("a false old book", (convert(&mut wrong), wrong == book), (0, true))?;
+    let mut count = with_byte_104(&old, 3, 0);
+    same("no state", convert(&mut count), 1)
+}
+
+fn rights_in_lines() -> Outcome {
+    let mut desk = Desk::new();
+    let held = right(SELLER, 5_000).to_vec();
+    let records = [
+        (Record::Right(held.clone()), "right 1\n"),
+        (Record::Length(2 * 512), "length 1024\n"),
+        (Record::Bytes { offset: 0, bytes: opened(2, 96, 45) }, "bytes 0 1024\n"),
+        (Record::Right(held.clone()), "right 0\n"),
+        (Record::Right(held), "right 40\n"),
+        (Record::Right(right(BUYER, 5_000).to_vec()), "right 17\n"),
+        (Record::Judge(message(SELLER, 1, 96, &[on_right("A", 1, 5_001)])), "judge 19 59 1 1 0\n"),
+        (
+            Record::Submit(message(BUYER, 1, 96, &[with(&on_right("A", 1, 0), OUT_PARTY, BUYER)])),
+            "submit 18 59 1 0 0 0\n",
+        ),
+        (Record::Code(18), "code 59\n"),
+        (Record::Code(19), "code 59\n"),
+        (Record::Code(40), "code 0\n"),
+        (
+            Record::Listing,
+            "listing 736c6f742073656e6465722073657269657320696e206f75742064696666657220666972737420706172746e65720a\n",
+        ),
+    ];
+    for (record, expected) in records {
+        let mut text = Vec::new();
+        let reply = desk.answer(&record).map_err(|_| "outside the buffer")?;
+        desk.write_line(&reply, &mut text).map_err(|error| error.to_string())?;
+        same("the line", String::from_utf8_lossy(&text).as_ref(), expected)?;
+    }
+    Ok(())
 }
 
 #[cfg(test)]

@@ -24,7 +24,7 @@ pub type Sides = (Option<u32>, Option<u32>);
 /// Of a sound book.
 pub fn sides(book: &[u8], out_party: &[u8], in_party: &[u8], position: Position) -> Sides {
     let (mut sold, mut bought) = (None, None);
-    for series in blocks(book).skip(1).filter(|block| block[KIND] == KIND_SERIES) {
+    for series in blocks(book).skip(1).filter(|block| block[KIND] == KIND_SERIES && is_internal(block)) {
         if field(series, OUT_PARTY) == *out_party && field(series, IN_PARTY) == *in_party {
             let owner = block_at(book, usize::from(u16_at(series, SENDER_SLOT)));
             let side = if field(owner, SENDER) == *out_party { &mut sold } else { &mut bought };
@@ -57,12 +57,21 @@ impl FinalCase {
         if series.is_empty() || last == 0 {
             return None;
         }
+        let external: Vec<&Block> = series.iter().copied().filter(|series| is_external(series)).collect();
         (0..40).find_map(|_| {
             let (in_party, out_party) = pair(random.pick(&series));
             let (out_party, in_party) = match self {
-                // The other direction of a trade, or one that two others might have made.
-                FinalCase::Neither if random.percent(50) => (in_party, out_party),
-                FinalCase::Neither => (random.pick(partners), random.pick(partners)),
+                // The other direction of a trade, one that two others might have made, or a pair that only external
+                // schedules have.
+                FinalCase::Neither => match random.below(6) {
+                    0 => (in_party, out_party),
+                    1 => (random.pick(partners), random.pick(partners)),
+                    _ if external.is_empty() => return None,
+                    _ => {
+                        let (in_party, out_party) = pair(random.pick(&external));
+                        (out_party, in_party)
+                    }
+                },
                 _ => (out_party, in_party),
             };
             let position = random.between(1, usize::from(last)) as u16;

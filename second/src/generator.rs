@@ -14,7 +14,7 @@ use crate::crafted::Kept;
 use crate::deck::Deck;
 use crate::desk::Desk;
 use crate::difference::Difference;
-use crate::draft::{Fault, FormFault, Side, WrongCode};
+use crate::draft::{Fault, FormFault, Side, WrongCode, ORDER};
 use crate::final_case::FinalCase;
 use crate::identifier::LAST_CHARACTER;
 use crate::names;
@@ -26,13 +26,17 @@ use crate::versions::VersionTurn;
 mod calls;
 mod conversions;
 mod episodes;
+mod externals;
 mod finals;
 mod looks;
 mod messages;
+mod rights;
 
 use conversions::{ConversionTurn, Use};
 use episodes::{OpeningInVain, WrongRule};
+use externals::ExternalTurn;
 use looks::PartnersAt;
+use rights::RightTurn;
 
 /// What is known of the book on which a call is made.
 #[derive(Clone, Copy, Debug, PartialEq, Eq)]
@@ -105,18 +109,39 @@ const WHOLE_CLIMB: u64 = 5;
 const BEYOND_CLIMB: usize = 4;
 
 /// Some faults find what they need only now and then, or are often hidden by others, so they come more often.
-const RARE_FAULTS: [Fault; 26] = [
+const RARE_FAULTS: [Fault; 48] = [
     Fault::Receiver,
+    Fault::Receiver,
+    Fault::EveryN,
+    Fault::MessageId,
     Fault::OtherMessageId,
     Fault::SeriesId,
+    Fault::IdTwice,
     Fault::IdTwice,
     Fault::IdOtherPair,
     Fault::IdOtherPair,
     Fault::PairTwice,
+    Fault::PairTwice,
     Fault::PairRenamed,
+    Fault::PairRenamed,
+    Fault::InParty,
+    Fault::OutParty,
     Fault::OutParty,
     Fault::EqualParties,
     Fault::Strangers,
+    Fault::ExternalStrangers,
+    Fault::ExternalStrangers,
+    Fault::NoneOurs,
+    Fault::NoneOurs,
+    Fault::OtherArea,
+    Fault::OtherArea,
+    Fault::BusinessType,
+    Fault::BusinessType,
+    Fault::CapacityContract,
+    Fault::CapacityContract,
+    Fault::CapacityAgreement,
+    Fault::CapacityAgreement,
+    Fault::AboveN,
     Fault::AboveN,
     Fault::AboveN,
     Fault::AboveN,
@@ -132,10 +157,20 @@ const RARE_FAULTS: [Fault; 26] = [
     Fault::Absent,
     Fault::Absent,
     Fault::Absent,
+    Fault::Absent,
 ];
 
-/// The last clauses of rule 2, which every other fault of form hides.
-const HIDDEN_FORMS: [FormFault; 3] = [FormFault::SeriesSenderSlot, FormFault::SeriesMark, FormFault::SeriesN];
+/// Faults of form that others often hide, and one that is made less often than it is dealt.
+const HIDDEN_FORMS: [FormFault; 8] = [
+    FormFault::TooLong,
+    FormFault::LaterKind,
+    FormFault::Count,
+    FormFault::SenderBytes6To7,
+    FormFault::SenderBytes64To107,
+    FormFault::SeriesSenderSlot,
+    FormFault::SeriesMark,
+    FormFault::SeriesN,
+];
 
 /// Whose code is to be wrong, and how often in one round: rule 4 is broken by one code and rule 8 by
 /// either of two, or by both, so the sender's comes three times.
@@ -149,12 +184,34 @@ const WRONG_CODES: [WrongCode; 6] = [
 ];
 
 /// What is done with an old book before its conversion. A message that it takes is a turn of its own.
-const OLD_USES: [Use; 9] =
-    [Use::Mark, Use::Block, Use::Final, Use::Final, Use::Final, Use::Plain, Use::Listing, Use::Judge, Use::Clock];
+const OLD_USES: [Use; 15] = [
+    Use::Mark,
+    Use::Mark,
+    Use::Block,
+    Use::Block,
+    Use::Final,
+    Use::Final,
+    Use::Final,
+    Use::Final,
+    Use::Final,
+    Use::Final,
+    Use::Plain,
+    Use::Listing,
+    Use::Judge,
+    Use::Clock,
+    Use::Right,
+];
 
 /// The ways to differ that no message comes to by chance.
-const RARE_WAYS_TO_DIFFER: [Difference; 4] =
-    [Difference::First, Difference::Last, Difference::AllButOne, Difference::All];
+const RARE_WAYS_TO_DIFFER: [Difference; 7] = [
+    Difference::First,
+    Difference::Last,
+    Difference::Two,
+    Difference::Three,
+    Difference::Four,
+    Difference::AllButOne,
+    Difference::All,
+];
 
 /// In which ways two senders differ that answer each other, so that a conversion often passes and often does not.
 const SMALL_WAYS_TO_DIFFER: [Difference; 9] = [
@@ -168,6 +225,9 @@ const SMALL_WAYS_TO_DIFFER: [Difference; 9] = [
     Difference::Three,
     Difference::Four,
 ];
+
+/// How often each kind of action comes, in the order of `action`.
+const ACTIONS: [usize; 24] = [72, 10, 3, 4, 4, 3, 4, 3, 2, 27, 6, 12, 56, 4, 20, 13, 15, 12, 4, 7, 9, 4, 21, 29];
 
 /// As many books go by the seller's rule as by the other, which an opening names or leaves unnamed.
 const RULES: [Option<u8>; 4] = [Some(SELLERS_RULE), Some(SELLERS_RULE), Some(LESSER_RULE), None];
@@ -191,8 +251,8 @@ pub struct Generator {
     queue: Queue,
     episodes: Deck<Episode>,
     breaches: Deck<Breach>,
-    /// The lower of two rules, next to each other, that one message is to break.
-    neighbours: Deck<u8>,
+    /// Two rules, next to each other in their order or nearly so, that one message is to break.
+    neighbours: Deck<(u8, u8)>,
     forms: Deck<FormFault>,
     faults: Deck<Fault>,
     /// Whose code is to be wrong, and at which character.
@@ -208,6 +268,8 @@ pub struct Generator {
     late_sides: [Deck<Side>; 2],
     /// Where partners are to stand in a book.
     partners_at: Deck<PartnersAt>,
+    rights: Deck<RightTurn>,
+    externals: Deck<ExternalTurn>,
     wrong_texts: Deck<u8>,
     versions: Deck<VersionTurn>,
     conversions: Deck<ConversionTurn>,
@@ -265,28 +327,30 @@ impl Generator {
             pool,
             queue: Queue { records: VecDeque::new(), standing: Standing::Usual },
             episodes: Deck::of(&round),
-            breaches: Deck::of(Breach::ALL),
-            neighbours: Deck::of(&(3..=16).collect::<Vec<u8>>()),
-            forms: Deck::of(&[FormFault::ALL, &HIDDEN_FORMS].concat()),
-            faults: Deck::of(&[Fault::ALL, &RARE_FAULTS].concat()),
-            wrong_codes: Deck::of(&at_each_character(&WRONG_CODES)),
-            wrong_openings: Deck::of(&at_each_character(&[false, true])),
-            wrong_rules: Deck::of(WrongRule::ALL),
-            openings_in_vain: Deck::of(OpeningInVain::ALL),
+            breaches: Deck::in_one_order(Breach::ALL, seed),
+            neighbours: Deck::in_one_order(&neighbours(), seed),
+            forms: Deck::in_one_order(&[FormFault::ALL, &HIDDEN_FORMS].concat(), seed),
+            faults: Deck::in_one_order(&[Fault::ALL, &RARE_FAULTS].concat(), seed),
+            wrong_codes: Deck::in_one_order(&at_each_character(&WRONG_CODES), seed),
+            wrong_openings: Deck::in_one_order(&at_each_character(&[false, true]), seed),
+            wrong_rules: Deck::in_one_order(WrongRule::ALL, seed),
+            openings_in_vain: Deck::in_one_order(OpeningInVain::ALL, seed),
             rules: Deck::of(&RULES),
-            final_cases: [SELLERS_RULE, LESSER_RULE].map(|_| Deck::of(FinalCase::ALL)),
+            final_cases: [SELLERS_RULE, LESSER_RULE].map(|_| Deck::in_one_order(FinalCase::ALL, seed)),
             late_sides: [SELLERS_RULE, LESSER_RULE].map(|_| Deck::of(&[Side::Buys, Side::Sells])),
             partners_at: Deck::of(PartnersAt::ALL),
-            wrong_texts: Deck::of(&(1..=LAST_CHARACTER).collect::<Vec<u8>>()),
-            versions: Deck::of(&VersionTurn::all()),
-            conversions: Deck::of(&ConversionTurn::all()),
-            old_uses: Deck::of(&OLD_USES),
-            new_uses: Deck::of(Use::ALL),
+            rights: Deck::in_one_order(&RightTurn::all(), seed),
+            externals: Deck::in_one_order(&ExternalTurn::all(), seed),
+            wrong_texts: Deck::in_one_order(&(1..=LAST_CHARACTER).collect::<Vec<u8>>(), seed),
+            versions: Deck::in_one_order(&VersionTurn::all(), seed),
+            conversions: Deck::in_one_order(&ConversionTurn::all(), seed),
+            old_uses: Deck::in_one_order(&OLD_USES, seed),
+            new_uses: Deck::in_one_order(Use::ALL, seed),
             ways_to_differ: NS.map(|_| Deck::of(&[Difference::ALL, &RARE_WAYS_TO_DIFFER].concat())),
-            small_ways_to_differ: Deck::of(&SMALL_WAYS_TO_DIFFER),
+            small_ways_to_differ: Deck::in_one_order(&SMALL_WAYS_TO_DIFFER, seed),
             ns: Deck::of(&NS),
-            kept: Deck::of(Kept::ALL),
-            numbers: Deck::of(&(0..=35).collect::<Vec<u8>>()),
+            kept: Deck::in_one_order(Kept::ALL, seed),
+            numbers: Deck::of(&(0..=42).collect::<Vec<u8>>()),
             episode: Episode::Small,
             whole_climb: seed % WHOLE_CLIMB == 0,
             partners: Vec::new(),
@@ -345,7 +409,7 @@ impl Generator {
     }
 
     fn action(&mut self, book: &[u8]) {
-        match self.random.weighted(&[66, 12, 7, 6, 8, 4, 8, 4, 4, 29, 6, 12, 36, 4, 19, 13, 11, 9, 4, 4, 8, 4]) {
+        match self.random.weighted(&ACTIONS) {
             0 => self.submission(book),
             1 => self.clock(book),
             2 => self.mark_or_block(book, true),
@@ -367,13 +431,22 @@ impl Generator {
             18 => self.false_book(book),
             19 => self.finals(book),
             20 => self.late_counterpart(book),
-            _ => self.looks(book),
+            21 => self.looks(book),
+            22 => self.enter_right(book),
+            _ => self.external(book),
         }
     }
 
     fn set_book(&mut self, from: &[u8], to: &[u8]) {
         records_between(from, to).into_iter().for_each(|record| self.queue.push_back(record));
     }
+}
+
+/// The pairs of rules that follow each other, and some between which others stand that cannot be broken with them: a
+/// series without a right has no limit.
+fn neighbours() -> Vec<(u8, u8)> {
+    let next = ORDER.windows(2).map(|two| (two[0], two[1])).filter(|two| *two != (18, 19));
+    next.chain([(12, 19), (18, 14), (10, 18), (19, 15)]).collect()
 }
 
 /// Each of these with each character that a code can be wrong at; twice with the last, which is wrong in
@@ -477,7 +550,7 @@ mod tests {
 
     #[test]
     fn calls_left_out_leave_their_changes_behind() {
-        let left_out = ["open", "open_by", "submit", "sound", "convert"];
+        let left_out = ["open", "open_by", "submit", "sound", "convert", "right"];
         let (mut whole, mut less) = (Vec::new(), Vec::new());
         write_stream(9, 4_000, &[], &mut whole).unwrap();
         write_stream(9, 1_000, &left_out, &mut less).unwrap();

@@ -6,12 +6,13 @@ use crate::block::*;
 use crate::breach::Breach;
 use crate::desk::Reply;
 use crate::difference::Difference;
+use crate::external::RightFault;
 use crate::final_case::FinalCase;
 use crate::generator::Standing;
 use crate::message::{self, MessageClause};
 use crate::old_book::BadState;
 use crate::sights::rules::{rule_kept, Asked};
-use crate::sights::{marks, sights, Sight};
+use crate::sights::{externals, marks, sights, Sight};
 use crate::sound::{self, Layout, SoundClause, NS};
 use crate::stream::Record;
 use crate::submission::{Broken, Verdict};
@@ -22,15 +23,16 @@ const ANSWERS: &[(&str, &[u8])] = &[
     ("open", &[0, 20, 21]),
     ("open_by", &[0, 20, 21]),
     ("clock", &[0, 1, 22]),
-    ("submit", &[0, 1, 2, 3, 4, 5, 6, 7, 8, 9, 10, 11, 12, 13, 14, 15, 16, 17]),
+    ("submit", &[0, 1, 2, 3, 4, 5, 6, 7, 8, 9, 10, 11, 12, 13, 14, 15, 16, 17, 18, 19]),
     ("mark", &[0, 1, 23]),
     ("block", &[0, 1, 23]),
     ("final", &[0, 1, 24, 25, 26]),
     ("plain", &[0, 1]),
     ("read", &[0, 30, 31]),
     ("print", &[0, 30, 32]),
-    ("judge", &[0, 1, 2, 3, 4, 5, 6, 7, 8, 9, 10, 11, 12, 13, 14, 15, 16, 17]),
+    ("judge", &[0, 1, 2, 3, 4, 5, 6, 7, 8, 9, 10, 11, 12, 13, 14, 15, 16, 17, 18, 19]),
     ("convert", &[0, 1]),
+    ("right", &[0, 1, 17, 40]),
 ];
 
 /// Where a wrong character is told, and which ones can be.
@@ -84,6 +86,8 @@ pub struct Histogram {
     /// The same, of conversions that fail by the breach alone.
     old_breaches: Vec<u64>,
     bad_states: Vec<u64>,
+    /// The ways in which blocks that were to be entered are no rights.
+    right_faults: Vec<u64>,
     /// For each n the ways in which a series of an accepted message differs from its counterpart.
     differences: [Vec<u64>; 3],
     /// For each rule who filed what of a trade whose final was asked for.
@@ -109,6 +113,7 @@ impl Default for Histogram {
             breaches: vec![0; Breach::ALL.len()],
             old_breaches: vec![0; Breach::ALL.len()],
             bad_states: vec![0; BadState::ALL.len()],
+            right_faults: vec![0; RightFault::ALL.len()],
             differences: NS.map(|_| vec![0; Difference::ALL.len()]),
             finals: RULE_NAMES.map(|_| vec![0; FinalCase::ALL.len()]),
             sights: vec![0; Sight::ALL.len()],
@@ -166,6 +171,13 @@ impl Histogram {
                 }
             }
             Reply::Convert(number) => tally(ANSWERS, &mut self.answers, "convert", *number),
+            Reply::Right(number) => {
+                self.answer("right", *number, book);
+                if let Record::Right(body) = record {
+                    let fault = externals::right_fault(body, *number, before);
+                    fault.into_iter().for_each(|fault| self.right_faults[fault as usize] += 1);
+                }
+            }
             Reply::Eic(character) => self.character("eic", *character),
             Reply::Sound(false) => self.unsound(book),
             Reply::Listing(text) if text == b"not sound\n" => self.unsound(book),
@@ -335,6 +347,9 @@ impl Histogram {
         for (bad, &count) in BadState::ALL.iter().zip(&self.bad_states) {
             rows.push((format!("conversion, nothing wrong but states: {}", bad.text()), count));
         }
+        for (fault, &count) in RightFault::ALL.iter().zip(&self.right_faults) {
+            rows.push((format!("right 40 alone for: {}", fault.text()), count));
+        }
         for (n, counts) in NS.iter().zip(&self.differences) {
             for (way, &count) in Difference::ALL.iter().zip(counts) {
                 rows.push((format!("accepted, n {n}, a series differs {}", way.text()), count));
@@ -370,6 +385,7 @@ fn use_of(reply: &Reply, changed: bool, book: &[u8]) -> (Option<Sight>, Option<S
         Reply::Final { number: 0, .. } => both(OldFinalLesser, NewFinalLesser),
         Reply::Listing(text) if text.starts_with(b"slot") => both(OldListing, NewListing),
         Reply::Clock { number: 0, .. } if changed => both(OldClock, NewClock),
+        Reply::Right(0) => both(OldRight, NewRight),
         Reply::Plain { number: 0, yes: false } => (Some(OldPlainNo), None),
         Reply::Plain { number: 0, yes: true } => (None, Some(NewPlainYes)),
         _ => (None, None),

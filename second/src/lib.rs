@@ -2,7 +2,7 @@
 //! can be compared with those of the proved program.
 //!
 //! The first group of modules is the paper: blocks, EICs and ids, quantity text, sound books,
-//! opening and clock, messages, submission and its looks, readings, conversion, listing. `plain_rule` is the
+//! opening and clock, rights, messages, submission and its looks, readings, conversion, listing. `plain_rule` is the
 //! matching rule for checking. The rest makes random calls, replays them and counts what decided.
 
 pub mod block;
@@ -19,6 +19,7 @@ pub mod message;
 pub mod plain_rule;
 pub mod quantity_text;
 pub mod readings;
+pub mod right;
 pub mod sound;
 pub mod submission;
 
@@ -29,6 +30,7 @@ pub mod desk;
 pub mod difference;
 pub mod draft;
 pub mod examples;
+pub mod external;
 pub mod final_case;
 pub mod generator;
 pub mod histogram;

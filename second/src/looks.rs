@@ -39,13 +39,13 @@ pub fn nothing_found(message: &[u8]) -> Found {
 }
 
 /// One look: what is found once this slot has been seen too. No other block of the book is needed. One party of
-/// each series of the message is its sender, and a block's sender is one of its parties: so another sender's
-/// series with the pair of a series is the other party's.
+/// each internal trade of the message is its sender, and a block's sender is one of its parties: so another
+/// sender's internal trade with the pair of such a series is the other party's. External schedules have no partner.
 pub fn look(slot: Slot, block: &Block, message: &[u8], sender: Slot, mut found: Found) -> Found {
-    if is_anothers_series(block, sender) {
+    if is_anothers_trade(block, sender) {
         let parties = pair(block);
         for (series, partner) in blocks(message).skip(1).zip(found.iter_mut()) {
-            if pair(series) == parties {
+            if is_internal(series) && pair(series) == parties {
                 partner.get_or_insert(slot);
             }
         }
@@ -53,8 +53,8 @@ pub fn look(slot: Slot, block: &Block, message: &[u8], sender: Slot, mut found: 
     found
 }
 
-fn is_anothers_series(block: &Block, sender: Slot) -> bool {
-    block[KIND] == KIND_SERIES && Slot(u16_at(block, SENDER_SLOT)) != sender
+fn is_anothers_trade(block: &Block, sender: Slot) -> bool {
+    block[KIND] == KIND_SERIES && is_internal(block) && Slot(u16_at(block, SENDER_SLOT)) != sender
 }
 
 #[cfg(test)]
@@ -64,6 +64,7 @@ mod tests {
     fn block_of(kind: u8, sender: u16, parties: (u8, u8)) -> Block {
         let mut block = [0; BLOCK_BYTES];
         block[KIND] = kind;
+        block[BUSINESS_TYPE] = INTERNAL_TRADE;
         put_u16(&mut block, SENDER_SLOT, sender);
         put_field(&mut block, IN_PARTY, &[parties.0; 16]);
         put_field(&mut block, OUT_PARTY, &[parties.1; 16]);
@@ -85,6 +86,16 @@ mod tests {
         assert_eq!(seen(block_of(KIND_SERIES, 5, (3, 2)), &none), none);
         assert_eq!(seen(block_of(KIND_SENDER, 5, (1, 2)), &none), none);
         assert_eq!(seen([0; BLOCK_BYTES], &none), none);
+        assert_eq!(seen(block_of(KIND_RIGHT, 5, (1, 2)), &none), none);
+        // External schedules, of another or in the message.
+        for business_type in [WITH_CAPACITY, WITHOUT_CAPACITY] {
+            let mut external = block_of(KIND_SERIES, 5, (1, 2));
+            external[BUSINESS_TYPE] = business_type;
+            assert_eq!(seen(external, &none), none);
+            let filed = [block_of(KIND_SENDER, 0, (0, 0)), external, own[0]].concat();
+            let theirs = block_of(KIND_SERIES, 5, (1, 2));
+            assert_eq!(look(Slot(7), &theirs, &filed, Slot(3), none.clone()), [None, Some(Slot(7))]);
+        }
         // What is found stays.
         let found = [Some(Slot(4)), None];
         assert_eq!(seen(block_of(KIND_SERIES, 5, (2, 1)), &found), [Some(Slot(4)), Some(Slot(7))]);

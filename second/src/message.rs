@@ -39,7 +39,7 @@ macro_rules! demand {
 ///
 /// What rule 2 leaves alone is left to later rules: the value of n, the day, versions, ids,
 /// parties, areas, capacity fields and quantities.
-pub fn broken_clauses(message: &[u8]) -> u64 {
+pub fn broken_clauses(message: &[u8]) -> u128 {
     if message.len() % BLOCK_BYTES != 0 {
         return MessageClause::WholeBlocks.bit();
     }

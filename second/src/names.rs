@@ -114,8 +114,8 @@ pub fn wrong_at(random: &mut Random, character: u8) -> Field {
 fn wrong_at_last(random: &mut Random) -> Field {
     loop {
         let mut code = valid_eic(random);
-        match random.below(7) {
-            0 | 1 => code = hyphen_eic(random),
+        match random.below(8) {
+            0 | 1 | 7 => code = hyphen_eic(random),
             2 => code[15] = b'-',
             3 => code[15] = random.pick(NOT_ALLOWED),
             4 => code[..15].fill(b'0'),

@@ -168,7 +168,8 @@ mod tests {
 
     fn crafted(random: &mut Random, round: usize) -> Vec<u8> {
         let pool: Vec<Field> = (0..20).map(|_| names::valid_eic(random)).collect();
-        let shape = Shape { senders: 1 + round % 4, fewest_series: 1, most_series: 5, free_slots: round % 3 };
+        let (senders, free_slots, rights) = (1 + round % 4, round % 3, round % 5);
+        let shape = Shape { senders, fewest_series: 1, most_series: 5, free_slots, rights, external: 30 };
         sound_book(random, &pool, &shape)
     }
 

@@ -37,9 +37,9 @@ pub fn final_quantity(
     let filed_by = |sender: &[u8]| {
         let last =
             accepted.iter().rev().map(AsRef::as_ref).find(|message| field(block_at(message, 0), SENDER) == *sender);
-        blocks(last?)
-            .skip(1)
-            .find(|series| field(series, OUT_PARTY) == *out_party && field(series, IN_PARTY) == *in_party)
+        let trades = blocks(last?).skip(1).filter(|series| series[BUSINESS_TYPE] == INTERNAL_TRADE);
+        let of_pair = |series: &Block| field(series, OUT_PARTY) == *out_party && field(series, IN_PARTY) == *in_party;
+        trades.into_iter().find(|series| of_pair(series))
     };
     let of = |series: &Block| quantity(series, position);
     match (filed_by(out_party), filed_by(in_party)) {
@@ -52,8 +52,9 @@ pub fn final_quantity(
 }
 
 /// Applies the rule to messages in the order of their acceptance. Since no accepted message may
-/// leave a stored series out, a sender's last message holds all that is in force for it.
-pub fn matching(accepted: &[impl AsRef<[u8]>]) -> Matching {
+/// leave a stored series out, a sender's last message holds all that is in force for it. The area is the book's: an
+/// external schedule counts by its direction, and is matched with nothing.
+pub fn matching(accepted: &[impl AsRef<[u8]>], area: &Field) -> Matching {
     let mut last: HashMap<Field, &[u8]> = HashMap::new();
     for message in accepted {
         let message = message.as_ref();
@@ -62,7 +63,7 @@ pub fn matching(accepted: &[impl AsRef<[u8]>]) -> Matching {
 
     let mut filed: HashMap<(Field, Field, Field), &Block> = HashMap::new();
     for (&sender, message) in &last {
-        for series in blocks(message).skip(1) {
+        for series in blocks(message).skip(1).filter(|series| series[BUSINESS_TYPE] == INTERNAL_TRADE) {
             let (in_party, out_party) = pair(series);
             filed.insert((sender, in_party, out_party), series);
         }
@@ -75,11 +76,13 @@ pub fn matching(accepted: &[impl AsRef<[u8]>]) -> Matching {
         for series in blocks(message).skip(1) {
             let (in_party, out_party) = pair(series);
             let buys = in_party == sender;
+            let trade = series[BUSINESS_TYPE] == INTERNAL_TRADE;
+            let comes_in = if trade { buys } else { field(series, IN_AREA) == *area };
             for (sum, value) in sums.iter_mut().zip(quantities(series)) {
-                *sum += if buys { value as i32 } else { -(value as i32) };
+                *sum += if comes_in { value as i32 } else { -(value as i32) };
             }
             let other = if buys { out_party } else { in_party };
-            let mark = match filed.get(&(other, in_party, out_party)) {
+            let mark = match filed.get(&(other, in_party, out_party)).filter(|_| trade) {
                 None => PlainMark { differ: 0, first: Position(0), partner: None },
                 Some(theirs) => {
                     let differs = |p: &Position| quantity(series, *p) != quantity(theirs, *p);

@@ -48,9 +48,9 @@ pub fn final_in(book: &SoundBook, out_party: &[u8], in_party: &[u8], position: P
     if position.is_open(book.clock(), book.lead()) {
         return (NOT_CLOSED, 0);
     }
-    // At most two series carry the pair, the seller's and the buyer's. One that is missing counts 0.
+    // At most two internal trades carry the pair, the seller's and the buyer's. One that is missing counts 0.
     let (mut sold, mut bought) = (None, None);
-    for (_, block) in book.series() {
+    for (_, block) in book.series().filter(|(_, block)| is_internal(block)) {
         let (bought_by, sold_by) = pair(block);
         if bought_by == *in_party && sold_by == *out_party {
             let side = if book.owner(block) == sold_by { &mut sold } else { &mut bought };
@@ -88,16 +88,16 @@ fn nets_are_true(book: &SoundBook) -> bool {
     plain_nets(book).into_iter().all(|(slot, truth)| nets(book.block(slot)).eq(truth))
 }
 
-/// The mark of every series by the plain rule, whatever the book keeps.
+/// The mark of every series by the plain rule, whatever the book keeps. External schedules are alone.
 pub fn plain_marks(book: &SoundBook) -> Vec<(Slot, Mark)> {
     let mut slots: HashMap<(Field, (Field, Field)), Slot> = HashMap::new();
-    for (slot, block) in book.series() {
+    for (slot, block) in book.series().filter(|(_, block)| is_internal(block)) {
         slots.insert((book.owner(block), pair(block)), slot);
     }
     let of_series = |block: &Block| {
         let (in_party, out_party) = pair(block);
         let other = if book.owner(block) == in_party { out_party } else { in_party };
-        match slots.get(&(other, (in_party, out_party))) {
+        match slots.get(&(other, (in_party, out_party))).filter(|_| is_internal(block)) {
             None => Mark::ALONE,
             Some(&partner) => Mark::between(block, book.block(partner), book.n(), partner),
         }
@@ -110,10 +110,10 @@ pub fn plain_nets(book: &SoundBook) -> Vec<(Slot, [i32; POSITIONS])> {
     let mut sums: HashMap<Slot, [i32; POSITIONS]> = HashMap::new();
     for (_, block) in book.series() {
         let owner = Slot(u16_at(block, SENDER_SLOT));
-        let bought = field(block, IN_PARTY) == book.owner(block);
+        let up = counts_up(block, &book.owner(block), &book.area());
         let sum = sums.entry(owner).or_insert([0; POSITIONS]);
         for (sum, value) in sum.iter_mut().zip(quantities(block)) {
-            *sum += if bought { value as i32 } else { -(value as i32) };
+            *sum += if up { value as i32 } else { -(value as i32) };
         }
     }
     book.senders().map(|(slot, _)| (slot, sums.get(&slot).copied().unwrap_or([0; POSITIONS]))).collect()

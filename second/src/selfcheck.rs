@@ -1,5 +1,6 @@
 //! The self-check: the worked examples, then random calls with demand 3 and the looks held against the plain
-//! rule after every acceptance, and each wrong character and rule 6 against a reckoning of its own.
+//! rule after every acceptance, and each wrong character, rule 6 and all that rests on rights against a reckoning of its
+//! own.
 
 use std::collections::HashMap;
 
@@ -8,15 +9,18 @@ use crate::book::SoundBook;
 use crate::counts::{Position, Slot};
 use crate::desk::{Desk, Reply};
 use crate::examples::EXAMPLES;
+use crate::external;
 use crate::generator::Generator;
 use crate::histogram::Histogram;
 use crate::identifier::is_well_formed_id;
 use crate::looks::search;
+use crate::names;
 use crate::plain_rule::{self, Matching, PlainMark};
+use crate::random::Random;
 use crate::readings::{final_in, plain_marks, plain_run};
 use crate::sound::is_sound;
 use crate::stream::Record;
-use crate::submission::submit;
+use crate::submission::{judge, submit, Verdict};
 use crate::versions::kept_sender;
 
 /// How many finals are remembered for one opening, so that reading them again stays quick.
@@ -60,15 +64,22 @@ impl Ledger {
             if (passed || verdict.number() == 6) && passed != passes_rule_6(message, before) {
                 return Err("rule 6 is answered otherwise than id and version ask".into());
             }
+            claims_are_judged(message, verdict, before)?;
+            others_rights_do_not_matter(message, verdict, before)?;
         }
         if let Reply::Convert(number) = reply {
             if (*number == 0) != (is_sound(before) && states_are_right(before)) {
                 return Err("a conversion is answered otherwise than the old layout asks".into());
             }
         }
+        if let (Record::Right(body), Reply::Right(number)) = (record, reply) {
+            if *number != right_due(body, before) {
+                return Err("a right is answered otherwise than its block and the book ask".into());
+            }
+        }
         let refused = match reply {
             Reply::Open { number, .. } | Reply::OpenBy { number, .. } => *number != 0,
-            Reply::Clock { number, .. } | Reply::Convert(number) => *number != 0,
+            Reply::Clock { number, .. } | Reply::Convert(number) | Reply::Right(number) => *number != 0,
             Reply::Submit { verdict, .. } => verdict.broken.is_some(),
             _ => false,
         };
@@ -99,6 +110,13 @@ impl Ledger {
                     if plain_run(after) != (0, true) {
                         return Err("the plain run denies a legal book".into());
                     }
+                }
+            }
+            (Record::Right(body), _) => {
+                entered_in_lowest_slot(body, before, after)?;
+                if before == self.legal.book {
+                    self.legal.book = after.to_vec();
+                    self.verify(after)?;
                 }
             }
             (Record::Convert, _) => {
@@ -150,7 +168,7 @@ impl Ledger {
     fn verify(&mut self, book: &[u8]) -> Result<(), String> {
         let sound = SoundBook::of(book).ok_or("an acceptance left the book unsound")?;
         let kept = kept_matching(&sound);
-        let plain = plain_rule::matching(&self.legal.accepted);
+        let plain = plain_rule::matching(&self.legal.accepted, &field(block_at(book, 0), AREA));
         if kept.marks != plain.marks {
             return Err("kept marks differ from the plain rule".into());
         }
@@ -241,6 +259,112 @@ fn passes_rule_6(message: &[u8], before: &[u8]) -> bool {
         (1..=999).filter(|&version| kept.map_or(true, |kept| u16_at(kept, VERSION) < version)).collect();
     let same_id = kept.map_or(true, |kept| field(kept, ID) == field(head, ID));
     same_id && is_well_formed_id(&field(head, ID)) && may_come.contains(&u16_at(head, VERSION))
+}
+
+/// What entering is to be answered, by making anew the right that the block's own parts give.
+fn right_due(body: &[u8], before: &[u8]) -> u8 {
+    if !is_sound(before) {
+        return 1;
+    }
+    let block: Block = match body.try_into() {
+        Err(_) => return 40,
+        Ok(block) => block,
+    };
+    let (day, n) = (block_at(before, 0), usize::from(before[1]));
+    let mut plain = [0; BLOCK_BYTES];
+    (plain[0], plain[1], plain[4], plain[5]) = (4, day[1], 3, block[5]);
+    plain[24..72].copy_from_slice(&block[24..72]);
+    plain[72..88].copy_from_slice(&block[56..72]);
+    plain[88..104].copy_from_slice(&block[88..104]);
+    plain[108..108 + 4 * n].copy_from_slice(&block[108..108 + 4 * n]);
+    seal(&mut plain);
+    let ours = &day[24..40];
+    let others: Vec<&[u8]> = [&block[24..40], &block[40..56]].into_iter().filter(|area| *area != ours).collect();
+    let lawful = plain == block
+        && (1..100).contains(&block[5])
+        && matches!(others[..], [other] if plain_character(other) == 0)
+        && plain_character(&block[56..72]) == 0
+        && is_well_formed_id(&block[88..104])
+        && quantities(&block).all(|limit| limit < 10_000_000);
+    let stored = blocks(before).skip(1).any(|kept| kept[0] == 4 && kept[..108] == block[..108]);
+    match (lawful && !stored, blocks(before).any(is_free)) {
+        (false, _) => 40,
+        (true, false) => 17,
+        (true, true) => 0,
+    }
+}
+
+/// After a right is entered, nothing but the lowest free slot is another, and that is the right as it was given.
+fn entered_in_lowest_slot(body: &[u8], before: &[u8], after: &[u8]) -> Result<(), String> {
+    let slot = blocks(before).position(is_free).ok_or("a right is entered though no slot is free")? * BLOCK_BYTES;
+    let behind = slot + BLOCK_BYTES;
+    if after[slot..behind] == *body && after[..slot] == before[..slot] && after[behind..] == before[behind..] {
+        Ok(())
+    } else {
+        Err("entering a right changed what it must not".into())
+    }
+}
+
+/// The first series of a message that names no right of its sender or passes the limit of one: rule, series and
+/// position. Series from this number on are not looked at.
+fn first_claim_in_vain(message: &[u8], before: &[u8], end: usize) -> Option<(u8, usize, u16)> {
+    let sender = field(block_at(message, 0), SENDER);
+    let mut left: HashMap<Vec<u8>, Vec<i64>> = HashMap::new();
+    let name = |block: &Block| [&block[5..6], &block[24..56], &block[88..104]].concat();
+    for right in blocks(before).skip(1).filter(|block| block[0] == 4 && field(block, HOLDER) == sender) {
+        left.insert(name(right), quantities(right).take(usize::from(before[1])).map(i64::from).collect());
+    }
+    for (series, number) in blocks(message).zip(0..end).skip(1).filter(|(series, _)| series[4] == 3) {
+        let left = match left.get_mut(&name(series)) {
+            None => return Some((18, number, 0)),
+            Some(left) => left,
+        };
+        left.iter_mut().zip(quantities(series)).for_each(|(left, value)| *left -= i64::from(value));
+        if let Some(place) = left.iter().position(|left| *left < 0) {
+            return Some((19, number, place as u16 + 1));
+        }
+    }
+    None
+}
+
+/// Rules 18 and 19, as far as the answer tells of them.
+fn claims_are_judged(message: &[u8], verdict: &Verdict, before: &[u8]) -> Result<(), String> {
+    let (number, series) = (verdict.number(), usize::from(verdict.series));
+    let due = match number {
+        1..=6 => return Ok(()),
+        // Nothing behind the series that decided was looked at, and not all of its own rules.
+        7..=13 => first_claim_in_vain(message, before, series),
+        14 | 15 | 18 | 19 => first_claim_in_vain(message, before, series + 1),
+        _ => first_claim_in_vain(message, before, usize::MAX),
+    };
+    if due == matches!(number, 18 | 19).then_some((number, series, verdict.position.0)) {
+        Ok(())
+    } else {
+        Err("rule 18 or 19 is answered otherwise than the sender's own rights ask".into())
+    }
+}
+
+/// Past rule 1 an answer does not depend on the rights of others: they may have other holders and limits.
+fn others_rights_do_not_matter(message: &[u8], verdict: &Verdict, before: &[u8]) -> Result<(), String> {
+    if verdict.number() <= 2 {
+        return Ok(());
+    }
+    let sender = field(block_at(message, 0), SENDER);
+    let mut other = before.to_vec();
+    for slot in 1..other.len() / BLOCK_BYTES {
+        let right = block_at_mut(&mut other, slot);
+        if right[KIND] == KIND_RIGHT && field(right, HOLDER) != sender {
+            let mut random = Random::new(slot as u64);
+            external::put_holder(right, &names::valid_eic(&mut random));
+            external::put_limits(&mut random, right);
+            seal(right);
+        }
+    }
+    if other == before || !is_sound(&other) || judge(&other, message) == *verdict {
+        Ok(())
+    } else {
+        Err("an answer depends on the rights of others".into())
+    }
 }
 
 /// After an acceptance: a series that is kept with these quantities has its version still, any other the
@@ -367,11 +491,15 @@ fn sender_side_is_true(book: &SoundBook, slot: Slot) -> Result<(), String> {
     let mut sums = [0i64; POSITIONS];
     for (own_slot, own) in book.series_of(slot) {
         let (in_party, out_party) = pair(own);
-        let sign = if in_party == sender { 1 } else { -1 };
+        let trade = own[BUSINESS_TYPE] == INTERNAL_TRADE;
+        let up = if trade { in_party == sender } else { own[IN_AREA..OUT_AREA] == book.day()[AREA..RECEIVER] };
+        let sign = if up { 1 } else { -1 };
         sums.iter_mut().zip(quantities(own)).for_each(|(sum, value)| *sum += sign * i64::from(value));
-        let counterpart = book
-            .series()
-            .find(|(_, block)| u16_at(block, SENDER_SLOT) != slot.0 && pair(block) == (in_party, out_party));
+        let is_counterpart = |block: &Block| {
+            let another = u16_at(block, SENDER_SLOT) != slot.0 && block[BUSINESS_TYPE] == INTERNAL_TRADE;
+            trade && another && pair(block) == (in_party, out_party)
+        };
+        let counterpart = book.series().find(|(_, block)| is_counterpart(block));
         let (other_slot, other) = match counterpart {
             None if own[MARK..VALUES] == [0, 0, 0, 0] => continue,
             None => return Err("a series without counterpart has a wrong mark".into()),

@@ -14,6 +14,7 @@ use crate::stream::Record;
 use crate::submission::{judge, Broken, Verdict};
 use crate::versions::{kept_sender, kept_version};
 
+pub mod externals;
 mod looks;
 pub mod marks;
 mod openings;
@@ -195,6 +196,118 @@ cases! {
         NewPlainYes "after a conversion, nothing accepted since: the plain run says yes",
         NewListing "after a conversion, nothing accepted since: a listing printed",
         NewClock "after a conversion, nothing accepted since: the clock moved",
+        MixedTypes "accepted, A02, A03 and A06 in one message",
+        ExternalsAlone "accepted, external series alone",
+        CapacityInBoth "accepted, A03, in area ours, sender both parties",
+        CapacityInBuyer "accepted, A03, in area ours, sender the in party",
+        CapacityInSeller "accepted, A03, in area ours, sender the out party",
+        CapacityOutBoth "accepted, A03, out area ours, sender both parties",
+        CapacityOutBuyer "accepted, A03, out area ours, sender the in party",
+        CapacityOutSeller "accepted, A03, out area ours, sender the out party",
+        PlainInBoth "accepted, A06, in area ours, sender both parties",
+        PlainInBuyer "accepted, A06, in area ours, sender the in party",
+        PlainInSeller "accepted, A06, in area ours, sender the out party",
+        PlainOutBoth "accepted, A06, out area ours, sender both parties",
+        PlainOutBuyer "accepted, A06, out area ours, sender the in party",
+        PlainOutSeller "accepted, A06, out area ours, sender the out party",
+        LimitMet "accepted, a limit met by one series",
+        SumMet "accepted, a limit met, several series on the right",
+        AboveOthersLimit "accepted, above the limit of another's right that is else the same",
+        SeveralRights "accepted, series on several rights together above the limit of one",
+        KeptOnRight "accepted, a kept series and a new one on one right",
+        SharedPair "accepted, an internal and an external series with one pair",
+        AnothersExternal "accepted, an internal series alone, another's external one has its pair",
+        AnothersTrade "accepted, an external series, another's internal one has its pair",
+        ExternalMarkFalse "accepted, the kept mark of an external series was not that of one alone",
+        RightBelowSender "accepted, a right in a slot below the sender's",
+        RightAboveSender "accepted, a right in a slot above the sender's",
+        ApartType "past rule 7, keys that differ in the business type alone",
+        ApartContract "past rule 7, keys that differ in the contract type alone",
+        ApartInArea "past rule 7, keys that differ in the in area alone",
+        ApartOutArea "past rule 7, keys that differ in the out area alone",
+        ApartInParty "past rule 7, external keys that differ in the in party alone",
+        ApartOutParty "past rule 7, external keys that differ in the out party alone",
+        ApartAgreement "past rule 7, keys that differ in the capacity agreement alone",
+        TradeOtherType "rule 7, an internal series' id with another business type alone",
+        TradeOtherContract "rule 7, an internal series' id with another contract type alone",
+        TradeOtherInArea "rule 7, an internal series' id with another in area alone",
+        TradeOtherOutArea "rule 7, an internal series' id with another out area alone",
+        TradeOtherInParty "rule 7, an internal series' id with another in party alone",
+        TradeOtherOutParty "rule 7, an internal series' id with another out party alone",
+        TradeOtherAgreement "rule 7, an internal series' id with another capacity agreement alone",
+        ExternalOtherType "rule 7, an external series' id with another business type alone",
+        ExternalOtherContract "rule 7, an external series' id with another contract type alone",
+        ExternalOtherInArea "rule 7, an external series' id with another in area alone",
+        ExternalOtherOutArea "rule 7, an external series' id with another out area alone",
+        ExternalOtherInParty "rule 7, an external series' id with another in party alone",
+        ExternalOtherOutParty "rule 7, an external series' id with another out party alone",
+        ExternalOtherAgreement "rule 7, an external series' id with another capacity agreement alone",
+        TradeTurned "rule 7, an internal series that has closed positions turned external",
+        ExternalParty "rule 8, a party of an external series not an EIC",
+        ExternalNeither "rule 8, an external series, the sender neither party",
+        ExternalNeitherEqual "rule 8, an external series, two equal parties that are not the sender",
+        PairElsewhere "rule 9, an internal series whose pair was seen earlier",
+        PlainWithContract "rule 10, an A06 series with a contract type",
+        PlainWithAgreement "rule 10, an A06 series with a capacity agreement",
+        TypeAlone "rule 10, an unknown business type, both areas ours",
+        TenAndNoRight "rule 10, and 18",
+        QuantityAndNoRight "rule 11, 12 or 13, and 18",
+        QuantityAndAboveLimit "rule 11, 12 or 13, and 19",
+        OthersRight "rule 18, the right is another's",
+        RightOtherContract "rule 18, the sender's right has another contract type",
+        RightOtherAgreement "rule 18, the sender's right has another agreement",
+        RightOtherArea "rule 18, the sender's right has another area",
+        RightTurned "rule 18, the sender's right has its areas exchanged",
+        HoldsNone "rule 18, the sender holds no right",
+        NoRightZero "rule 18, all quantities 0",
+        NoRightAndClosed "rule 18, and 14",
+        PassedAlone "rule 19, by the series itself",
+        PassedBySecond "rule 19, by two series, each within the limit",
+        PassedByThird "rule 19, by three series or more, the last within the limit",
+        PassedByOne "rule 19, by one kW",
+        PassedFirst "rule 19 at position 1",
+        PassedLast "rule 19 at position n",
+        PassedClosed "rule 19 at a closed position",
+        PassedZero "rule 19, a limit of 0",
+        OthersAllow "rule 19, another's right that is else the same would allow it",
+        AboveAndClosed "rule 19, and 14",
+        AboveAndClosedBelow "rule 19, and 14 at a lower position",
+        KindOfRight "rule 2 for a later block of kind 4 alone",
+        RightNothing "right 40, no byte",
+        RightByteLess "right 40, 511 bytes",
+        RightByteMore "right 40, 513 bytes",
+        RightBlockMore "right 40, 1,024 bytes",
+        RightEqual "right 40, it stands there",
+        RightOtherLimits "right 40, it stands there with other limits",
+        RightEqualFull "right 40, it stands there and the book is full",
+        NoRightFull "right 40, malformed and the book is full",
+        RightUnsound "right 1, nothing wrong in the block",
+        NoRightUnsound "right 1, and malformed",
+        RightLastSlot "right 0 in the last slot",
+        RightFirstSlot "right 0 in the first slot",
+        RightOfSender "right 0, its holder is a sender",
+        RightOfStranger "right 0, its holder is no sender",
+        RightAfterClosing "right 0, positions are closed",
+        NearHolder "right 0, a kept right differs in its holder alone",
+        NearContract "right 0, a kept right differs in its contract type alone",
+        NearAgreement "right 0, a kept right differs in its agreement alone",
+        NearArea "right 0, a kept right differs in its other area alone",
+        NearDirection "right 0, a kept right differs in its direction alone",
+        FinalExternal "final 26, external series alone have the pair",
+        FinalExternalEqual "final 26, equal parties that an external series has",
+        FinalBoth "final 0, an external series has the pair too",
+        MarkExternal "mark of an external series",
+        BlockExternal "block of an external series",
+        ListingExternal "listing printed, with an external series",
+        ListingRight "listing printed, a right in the book",
+        PlainYesExternal "plain run says yes, with an external series",
+        PlainYesRight "plain run says yes, a right in the book",
+        PlainNoExternal "plain run says no, with an external series",
+        ConvertedExternal "converted, an external series",
+        ConvertedExternalFalse "converted, the state, first or partner of an external series was false",
+        ConvertedRight "converted, a right in the book",
+        OldRight "old book before its conversion: a right entered",
+        NewRight "after a conversion, nothing accepted since: a right entered",
     }
 }
 
@@ -203,8 +316,18 @@ pub fn sights(record: &Record, reply: &Reply, before: &[u8], book: &[u8]) -> Vec
     match (record, reply) {
         (Record::Submit(message), Reply::Submit { verdict, looked }) => {
             let of_verdict = match verdict.broken {
-                None => [acceptance(message, book), looks::looks(message, *looked, before, book)].concat(),
-                Some(broken) => [refusal(message, verdict, broken, book), codes_of_refusal(message, verdict)].concat(),
+                None => [
+                    acceptance(message, book),
+                    looks::looks(message, *looked, before, book),
+                    externals::acceptance(message, before, book),
+                ]
+                .concat(),
+                Some(broken) => [
+                    refusal(message, verdict, broken, book),
+                    codes_of_refusal(message, verdict),
+                    externals::refusal(message, verdict, broken, book),
+                ]
+                .concat(),
             };
             [of_verdict, versions(message, verdict, before)].concat()
         }
@@ -216,12 +339,31 @@ pub fn sights(record: &Record, reply: &Reply, before: &[u8], book: &[u8]) -> Vec
             held(&[(*minute == LATEST_MINUTE + 1, Sight::ClockBeyondLast)])
         }
         (Record::Eic(text), Reply::Eic(character)) => code_checked(text, *character),
-        (Record::Listing, Reply::Listing(text)) => listing_given(text, book.len()),
-        (Record::Mark { .. }, Reply::Mark { number: 0, mark }) => marks::mark_read(mark, book),
+        (Record::Listing, Reply::Listing(text)) => {
+            let printed = text.starts_with(b"slot");
+            let more = externals::reading(book, Sight::ListingExternal, Sight::ListingRight);
+            [listing_given(text, book.len()), if printed { more } else { Vec::new() }].concat()
+        }
+        (Record::Mark { sender, id }, Reply::Mark { number: 0, mark }) => {
+            let external = externals::is_of_external(sender, id, book);
+            [marks::mark_read(mark, book), held(&[(external, Sight::MarkExternal)])].concat()
+        }
+        (Record::Block { sender, id }, Reply::Block { number: 0, .. }) => {
+            held(&[(externals::is_of_external(sender, id, book), Sight::BlockExternal)])
+        }
+        (Record::Right(body), Reply::Right(number)) => externals::entering(body, *number, before),
+        (Record::Plain, Reply::Plain { number: 0, yes: true }) => {
+            let more = externals::reading(book, Sight::PlainYesExternal, Sight::PlainYesRight);
+            [vec![Sight::PlainYes], more].concat()
+        }
         (Record::Plain, Reply::Plain { number: 0, yes: false }) => marks::plain_says_no(book),
-        (Record::Convert, Reply::Convert(number)) => marks::conversion(*number, before, book),
-        (Record::Final { out_party, in_party, .. }, Reply::Final { number: 0, value }) => {
-            final_given(out_party, in_party, *value, book)
+        (Record::Convert, Reply::Convert(number)) => {
+            let more = if *number == 0 { externals::conversion(before) } else { Vec::new() };
+            [marks::conversion(*number, before, book), more].concat()
+        }
+        (Record::Final { out_party, in_party, .. }, Reply::Final { number, value }) => {
+            let given = if *number == 0 { final_given(out_party, in_party, *value, book) } else { Vec::new() };
+            [given, externals::final_asked(out_party, in_party, *number, book)].concat()
         }
         _ => plain_sight(reply).into_iter().collect(),
     }
@@ -231,7 +373,6 @@ pub fn sights(record: &Record, reply: &Reply, before: &[u8], book: &[u8]) -> Vec
 fn plain_sight(reply: &Reply) -> Option<Sight> {
     let either = |yes: bool, if_yes: Sight, if_no: Sight| Some(if yes { if_yes } else { if_no });
     match reply {
-        Reply::Plain { number: 0, yes: true } => Some(Sight::PlainYes),
         Reply::Sound(yes) => either(*yes, Sight::SoundYes, Sight::SoundNo),
         Reply::Reader(series) => either(series.is_empty(), Sight::ReaderEmpty, Sight::ReaderSeries),
         Reply::Walk { count, .. } => either(*count == 0, Sight::WalkNothing, Sight::WalkWhole),
@@ -426,6 +567,7 @@ fn listing_given(text: &[u8], length: usize) -> Vec<Sight> {
 fn final_given(out_party: &[u8], in_party: &[u8], value: u32, book: &[u8]) -> Vec<Sight> {
     let filed_by_seller = blocks(book).skip(1).any(|block| {
         block[KIND] == KIND_SERIES
+            && is_internal(block)
             && field(block, OUT_PARTY) == *out_party
             && field(block, IN_PARTY) == *in_party
             && field(block_at(book, usize::from(u16_at(block, SENDER_SLOT))), SENDER) == *out_party

@@ -4,6 +4,7 @@ use crate::block::*;
 use crate::clause::clauses;
 use crate::counts::{Slot, LATEST_MINUTE, LONGEST_LEAD};
 use crate::identifier::{is_valid_eic, is_well_formed_id};
+use crate::right::{self, direction, is_contract_type, Direction, RightClause};
 
 pub const FEWEST_BLOCKS: usize = 2;
 pub const MOST_BLOCKS: usize = 1_001;
@@ -35,7 +36,7 @@ clauses! {
         DayArea "day block: area not an EIC",
         DayReceiver "day block: receiver not an EIC",
         FreeBeforeUsed "a free slot before a used one",
-        Kind "used slot neither sender nor series",
+        Kind "used slot neither sender, series nor right",
         SenderVersion "sender: version out of range",
         SenderCount "sender: count out of range",
         NetRange "sender: net out of range",
@@ -49,25 +50,46 @@ clauses! {
         SenderN "sender: n not the day block's",
         SeriesN "series: n not the day block's",
         SenderDay "sender: day not the day block's",
-        InArea "series: in area not the day block's",
-        OutArea "series: out area not the day block's",
+        InArea "internal series: in area not the day block's",
+        OutArea "internal series: out area not the day block's",
+        BothOurs "external series: both areas the day block's",
+        NoneOurs "external series: no area the day block's",
+        OtherArea "external series: the other area not an EIC",
         SenderReceiver "sender: receiver not the day block's",
-        ContractType "series: contract type not 0",
-        Agreement "series: capacity agreement not 0",
-        BusinessType "series: business type not 2",
+        ContractType "series without capacity: contract type not 0",
+        Agreement "series without capacity: capacity agreement not 0",
+        CapacityContract "series with capacity: contract type not 1 to 99",
+        CapacityAgreement "series with capacity: capacity agreement malformed",
+        BusinessType "series: business type not 2, 3 or 6",
         SenderEic "sender: not an EIC",
         SenderTwice "two senders with one EIC",
         SenderSlot "series: names no sender's slot",
-        PartiesEqual "series: both parties equal",
+        PartiesEqual "internal series: both parties equal",
         InParty "series: in party not an EIC",
         OutParty "series: out party not an EIC",
         NeitherSender "series: neither party is its sender",
         SeriesIdTwice "a sender's series id twice",
-        PairTwice "a sender's pair twice",
+        KeyTwice "a sender's key twice",
         CountWrong "sender: count is not that of its series",
         Byte104 "series: byte 104 out of range",
         First "series: first above n",
         Partner "series: partner neither 0 nor a series slot",
+        RightN "right: n not the day block's",
+        RightVersion "right: bytes 2-3 not 0",
+        RightType "right: business type not 3",
+        RightContract "right: contract type not 1 to 99",
+        RightSlot "right: bytes 6-7 not 0",
+        RightId "right: bytes 8-23 not 0",
+        RightBothOurs "right: both areas the day block's",
+        RightNoneOurs "right: no area the day block's",
+        RightOtherArea "right: the other area not an EIC",
+        RightParties "right: two parties",
+        RightHolder "right: holder not an EIC",
+        RightAgreement "right: capacity agreement malformed",
+        RightMark "right: bytes 104-107 not 0",
+        LimitRange "right: limit out of range",
+        LimitAboveN "right: limit above n",
+        RightTwice "two rights alike but for their limits",
     }
 }
 
@@ -101,7 +123,7 @@ macro_rules! demand {
 
 /// All broken clauses, as far as the book can be read at all: with a wrong length, a wrong check
 /// or a day block without a lawful n nothing further is judged.
-pub fn broken_clauses(book: &[u8], layout: Layout) -> u64 {
+pub fn broken_clauses(book: &[u8], layout: Layout) -> u128 {
     if book.len() % BLOCK_BYTES != 0 {
         return SoundClause::WholeBlocks.bit();
     }
@@ -137,13 +159,14 @@ pub fn broken_clauses(book: &[u8], layout: Layout) -> u64 {
         broken |= match block[KIND] {
             KIND_SENDER => broken_in_sender(block, day),
             KIND_SERIES => broken_in_series(block, day, layout),
+            KIND_RIGHT => broken_in_right(block, day),
             _ => SoundClause::Kind.bit(),
         };
     }
     broken | broken_between(&used, count)
 }
 
-fn broken_in_day(day: &Block) -> u64 {
+fn broken_in_day(day: &Block) -> u128 {
     let mut broken = 0;
     demand!(broken, DayKind, day[KIND] == KIND_DAY);
     demand!(broken, DayN, NS.contains(&day[N]));
@@ -157,7 +180,7 @@ fn broken_in_day(day: &Block) -> u64 {
     broken
 }
 
-fn broken_in_sender(sender: &Block, day: &Block) -> u64 {
+fn broken_in_sender(sender: &Block, day: &Block) -> u128 {
     let n = usize::from(day[N]);
     let mut broken = 0;
     demand!(broken, SenderVersion, (1..=HIGHEST_VERSION).contains(&u16_at(sender, VERSION)));
@@ -178,9 +201,8 @@ fn broken_in_sender(sender: &Block, day: &Block) -> u64 {
     broken
 }
 
-fn broken_in_series(series: &Block, day: &Block, layout: Layout) -> u64 {
+fn broken_in_series(series: &Block, day: &Block, layout: Layout) -> u128 {
     let n = usize::from(day[N]);
-    let area = field(day, AREA);
     let (in_party, out_party) = pair(series);
     let mut broken = 0;
     demand!(broken, SeriesVersion, (1..=HIGHEST_VERSION).contains(&u16_at(series, VERSION)));
@@ -189,12 +211,9 @@ fn broken_in_series(series: &Block, day: &Block, layout: Layout) -> u64 {
     demand!(broken, QuantityAboveN, all_zero(&series[VALUES + 4 * n..CHECK]));
     demand!(broken, SeriesId, is_well_formed_id(&field(series, ID)));
     demand!(broken, SeriesN, series[N] == day[N]);
-    demand!(broken, InArea, field(series, IN_AREA) == area);
-    demand!(broken, OutArea, field(series, OUT_AREA) == area);
-    demand!(broken, ContractType, series[CONTRACT_TYPE] == 0);
-    demand!(broken, Agreement, all_zero(&series[AGREEMENT..AGREEMENT + 16]));
-    demand!(broken, BusinessType, series[BUSINESS_TYPE] == INTERNAL_TRADE);
-    demand!(broken, PartiesEqual, in_party != out_party);
+    broken |= broken_in_areas(series, &field(day, AREA)) | broken_in_capacity(series);
+    demand!(broken, BusinessType, is_internal(series) || is_external(series));
+    demand!(broken, PartiesEqual, in_party != out_party || is_external(series));
     demand!(broken, InParty, is_valid_eic(&in_party));
     demand!(broken, OutParty, is_valid_eic(&out_party));
     let lawful = match layout {
@@ -206,8 +225,68 @@ fn broken_in_series(series: &Block, day: &Block, layout: Layout) -> u64 {
     broken
 }
 
+/// An external schedule has one area in common with the book, any other series both.
+fn broken_in_areas(series: &Block, area: &Field) -> u128 {
+    let mut broken = 0;
+    if is_external(series) {
+        match direction(series, area) {
+            Direction::Within => demand!(broken, BothOurs, false),
+            Direction::Elsewhere => demand!(broken, NoneOurs, false),
+            Direction::In(other) | Direction::Out(other) => demand!(broken, OtherArea, is_valid_eic(&other)),
+        }
+    } else {
+        demand!(broken, InArea, field(series, IN_AREA) == *area);
+        demand!(broken, OutArea, field(series, OUT_AREA) == *area);
+    }
+    broken
+}
+
+/// The capacity fields: those of a right where the series is on one, else 0.
+fn broken_in_capacity(series: &Block) -> u128 {
+    let agreement = field(series, AGREEMENT);
+    let mut broken = 0;
+    if series[BUSINESS_TYPE] == WITH_CAPACITY {
+        demand!(broken, CapacityContract, is_contract_type(series[CONTRACT_TYPE]));
+        demand!(broken, CapacityAgreement, is_well_formed_id(&agreement));
+    } else {
+        demand!(broken, ContractType, series[CONTRACT_TYPE] == 0);
+        demand!(broken, Agreement, all_zero(&agreement));
+    }
+    broken
+}
+
+fn broken_in_right(block: &Block, day: &Block) -> u128 {
+    let of_right = right::broken_clauses(block, day);
+    let held = RightClause::ALL.iter().filter(|clause| of_right & clause.bit() != 0);
+    held.fold(0, |broken, &clause| broken | SoundClause::of_right(clause).bit())
+}
+
+impl SoundClause {
+    /// The clause of a sound book that a block breaks which is no right.
+    pub fn of_right(clause: RightClause) -> SoundClause {
+        match clause {
+            RightClause::Kind => SoundClause::Kind,
+            RightClause::N => SoundClause::RightN,
+            RightClause::Version => SoundClause::RightVersion,
+            RightClause::BusinessType => SoundClause::RightType,
+            RightClause::ContractType => SoundClause::RightContract,
+            RightClause::SenderSlot => SoundClause::RightSlot,
+            RightClause::Id => SoundClause::RightId,
+            RightClause::BothOurs => SoundClause::RightBothOurs,
+            RightClause::NoneOurs => SoundClause::RightNoneOurs,
+            RightClause::OtherArea => SoundClause::RightOtherArea,
+            RightClause::PartiesDiffer => SoundClause::RightParties,
+            RightClause::Holder => SoundClause::RightHolder,
+            RightClause::Agreement => SoundClause::RightAgreement,
+            RightClause::Mark => SoundClause::RightMark,
+            RightClause::LimitRange => SoundClause::LimitRange,
+            RightClause::LimitAboveN => SoundClause::LimitAboveN,
+        }
+    }
+}
+
 /// The clauses that set several blocks beside each other.
-fn broken_between(used: &[(Slot, &Block)], count: usize) -> u64 {
+fn broken_between(used: &[(Slot, &Block)], count: usize) -> u128 {
     let mut broken = 0;
     // By slot: the kind of block there and, for senders, its EIC.
     let mut kinds = vec![0u8; count];
@@ -218,16 +297,16 @@ fn broken_between(used: &[(Slot, &Block)], count: usize) -> u64 {
         if block[KIND] == KIND_SENDER {
             let eic = field(block, SENDER);
             eics[usize::from(slot.0)] = eic;
-            senders.push(key(eic));
+            senders.push(number(eic));
         }
     }
     demand!(broken, SenderTwice, all_distinct(&mut senders));
 
     let kind_of = |slot: u16| kinds.get(usize::from(slot)).copied().unwrap_or(0);
     let mut held = vec![0u16; count];
-    // A series belongs to the sender whose slot it names; ids and pairs are compared within it.
+    // A series belongs to the sender whose slot it names; ids and keys are compared within it.
     let mut ids: Vec<(u16, u128)> = Vec::with_capacity(used.len());
-    let mut pairs: Vec<(u16, u128, u128)> = Vec::with_capacity(used.len());
+    let mut keys: Vec<(u16, Key)> = Vec::with_capacity(used.len());
     for &(_, block) in used.iter().filter(|(_, block)| block[KIND] == KIND_SERIES) {
         let owner = u16_at(block, SENDER_SLOT);
         if kind_of(owner) == KIND_SENDER {
@@ -235,8 +314,8 @@ fn broken_between(used: &[(Slot, &Block)], count: usize) -> u64 {
             let eic = eics[usize::from(owner)];
             demand!(broken, NeitherSender, in_party == eic || out_party == eic);
             held[usize::from(owner)] += 1;
-            ids.push((owner, key(field(block, ID))));
-            pairs.push((owner, key(in_party), key(out_party)));
+            ids.push((owner, number(field(block, ID))));
+            keys.push((owner, key(block)));
         } else {
             broken |= SoundClause::SenderSlot.bit();
         }
@@ -244,7 +323,10 @@ fn broken_between(used: &[(Slot, &Block)], count: usize) -> u64 {
         demand!(broken, Partner, partner == 0 || kind_of(partner) == KIND_SERIES);
     }
     demand!(broken, SeriesIdTwice, all_distinct(&mut ids));
-    demand!(broken, PairTwice, all_distinct(&mut pairs));
+    demand!(broken, KeyTwice, all_distinct(&mut keys));
+    let rights = used.iter().filter(|(_, block)| block[KIND] == KIND_RIGHT);
+    let mut rights: Vec<&[u8]> = rights.map(|&(_, block)| right::but_for_limits(block)).collect();
+    demand!(broken, RightTwice, all_distinct(&mut rights));
     for &(slot, block) in used.iter().filter(|(_, block)| block[KIND] == KIND_SENDER) {
         demand!(broken, CountWrong, u16_at(block, COUNT) == held[usize::from(slot.0)]);
     }
@@ -266,7 +348,7 @@ pub fn is_day(bytes: &[u8]) -> bool {
 }
 
 /// A field as one number, so that sorting compares it in one step.
-fn key(field: Field) -> u128 {
+fn number(field: Field) -> u128 {
     u128::from_be_bytes(field)
 }
 

@@ -9,6 +9,8 @@ use crate::sound::MOST_BLOCKS;
 pub const MOST_BOOK_BYTES: usize = MOST_BLOCKS * BLOCK_BYTES;
 /// Longer than any lawful message, so that the upper edge of rule 2 can be tried.
 pub const MOST_MESSAGE_BYTES: usize = 256 * BLOCK_BYTES;
+/// Longer than any lawful right, so that a wrong length can be tried.
+pub const MOST_RIGHT_BYTES: usize = 2 * BLOCK_BYTES;
 /// The longest name, text or print buffer.
 pub const MOST_TEXT_BYTES: usize = 64;
 
@@ -50,6 +52,7 @@ pub enum Record {
     Judge(Vec<u8>),
     OpenBy { rule: u8, opening: Opening },
     Convert,
+    Right(Vec<u8>),
 }
 
 /// Why reading stopped.
@@ -84,6 +87,7 @@ const TAG_CODE: u8 = 22;
 const TAG_JUDGE: u8 = 23;
 const TAG_OPEN_BY: u8 = 24;
 const TAG_CONVERT: u8 = 25;
+const TAG_RIGHT: u8 = 26;
 
 /// The fewest and the most bytes a body of this kind may have; nothing for an unknown tag.
 pub fn body_limits(tag: u8) -> Option<(usize, usize)> {
@@ -102,12 +106,13 @@ pub fn body_limits(tag: u8) -> Option<(usize, usize)> {
         TAG_PRINT => (4, 4 + MOST_TEXT_BYTES),
         TAG_CHECK | TAG_SEAL => (BLOCK_BYTES, BLOCK_BYTES),
         TAG_CODE => (1, 1),
+        TAG_RIGHT => (0, MOST_RIGHT_BYTES),
         _ => return None,
     })
 }
 
 /// The calls: tag and word.
-pub const CALLS: [(u8, &str); 21] = [
+pub const CALLS: [(u8, &str); 22] = [
     (TAG_OPEN, "open"),
     (TAG_CLOCK, "clock"),
     (TAG_SUBMIT, "submit"),
@@ -129,6 +134,7 @@ pub const CALLS: [(u8, &str); 21] = [
     (TAG_JUDGE, "judge"),
     (TAG_OPEN_BY, "open_by"),
     (TAG_CONVERT, "convert"),
+    (TAG_RIGHT, "right"),
 ];
 
 /// The records that turn one book into another: a new length where it differs, then the blocks that
@@ -182,6 +188,7 @@ impl Record {
                 | Record::Listing
                 | Record::Sound
                 | Record::Judge(_)
+                | Record::Right(_)
         )
     }
 
@@ -196,6 +203,7 @@ impl Record {
                 | Record::Clock(_)
                 | Record::Submit(_)
                 | Record::Convert
+                | Record::Right(_)
         )
     }
 
@@ -226,6 +234,7 @@ impl Record {
             Record::Judge(_) => TAG_JUDGE,
             Record::OpenBy { .. } => TAG_OPEN_BY,
             Record::Convert => TAG_CONVERT,
+            Record::Right(_) => TAG_RIGHT,
         }
     }
 
@@ -254,7 +263,9 @@ impl Record {
                 body.extend(number.to_le_bytes());
                 body.extend(message);
             }
-            Record::Submit(bytes) | Record::Walk(bytes) | Record::Judge(bytes) => body.extend(bytes),
+            Record::Submit(bytes) | Record::Walk(bytes) | Record::Judge(bytes) | Record::Right(bytes) => {
+                body.extend(bytes);
+            }
             Record::Eic(text) | Record::Id(text) | Record::Read(text) => body.extend(text),
             Record::Print { quantity, buffer } => {
                 body.extend(quantity.to_le_bytes());
@@ -415,6 +426,7 @@ fn decode(tag: u8, body: &[u8]) -> Option<Record> {
         TAG_CODE => Record::Code(fields.u8()?),
         TAG_JUDGE => Record::Judge(fields.rest()),
         TAG_CONVERT => Record::Convert,
+        TAG_RIGHT => Record::Right(fields.rest()),
         _ => return None,
     };
     fields.0.is_empty().then_some(record)
@@ -443,6 +455,8 @@ mod tests {
             Record::Seal(Box::new([5; BLOCK_BYTES])),
             Record::Judge(vec![8; 700]),
             Record::Convert,
+            Record::Right(Vec::new()),
+            Record::Right(vec![4; 1_024]),
         ];
         let mut stream = Vec::new();
         for record in &records {
@@ -469,7 +483,9 @@ mod tests {
         assert!(matches!(read(&[24, 6, 0, 0, 0, 0, 0, 0, 0, 0, 0]), Err(Stop::Malformed)));
         assert!(matches!(read(&[24, 7, 0, 0, 0, 0, 0, 0, 0, 0, 0, 1]), Err(Stop::Malformed)));
         assert!(matches!(read(&[24, 200, 0, 0, 0]), Err(Stop::Malformed)));
-        assert!(matches!(read(&[26, 0, 0, 0, 0]), Err(Stop::Malformed)));
+        assert!(matches!(read(&[26, 1, 4, 0, 0]), Err(Stop::Malformed)));
+        assert!(matches!(read(&[26, 1, 0, 0, 0]), Err(Stop::Malformed)));
+        assert!(matches!(read(&[27, 0, 0, 0, 0]), Err(Stop::Malformed)));
         assert!(matches!(read(&[25, 1, 0, 0, 0, 0]), Err(Stop::Malformed)));
         assert!(matches!(read(&[3]), Err(Stop::Malformed)));
         assert!(matches!(read(&[3, 0, 0, 0]), Err(Stop::Malformed)));

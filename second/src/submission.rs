@@ -10,9 +10,10 @@ use crate::book::SoundBook;
 use crate::clause::clauses;
 use crate::codes::reason_code;
 use crate::counts::{Position, Slot};
-use crate::identifier::{is_well_formed_id, wrong_character};
+use crate::identifier::{is_valid_eic, is_well_formed_id, wrong_character};
 use crate::looks::search;
 use crate::message;
+use crate::right::{direction, is_contract_type, named_among, Direction};
 
 clauses! {
     /// What a refusal rests on. Several of these share one number of the table.
@@ -31,21 +32,28 @@ clauses! {
         VersionAbove999 "known sender: version above 999",
         SeriesIdMalformed "series id malformed",
         SeriesIdEarlier "series id twice in the message",
-        SeriesIdStored "series id kept with a different pair",
-        PairEarlier "pair twice in the message",
-        PairStored "pair kept under a different id",
+        SeriesIdStored "series id kept with a different key",
+        KeyEarlier "key twice in the message",
+        KeyStored "key kept under a different id",
         InParty "in party not an EIC",
         OutParty "out party not an EIC",
-        PartiesEqual "both parties equal",
+        PartiesEqual "both parties of an internal series equal",
         NeitherSender "sender is no party",
-        InArea "in area not the book's",
-        OutArea "out area not the book's",
-        BusinessType "business type not 2",
-        ContractType "contract type not 0",
-        Agreement "capacity agreement not 0",
+        InArea "internal series: in area not the book's",
+        OutArea "internal series: out area not the book's",
+        BothOurs "external series: both areas the book's",
+        NoneOurs "external series: no area the book's",
+        OtherArea "external series: the other area not an EIC",
+        BusinessType "business type not 2, 3 or 6",
+        ContractType "without capacity: contract type not 0",
+        Agreement "without capacity: capacity agreement not 0",
+        CapacityContract "with capacity: contract type not 1 to 99",
+        CapacityAgreement "with capacity: capacity agreement malformed",
         QuantityTopBit "quantity with its top bit set",
         QuantityTooHigh "quantity above 9,999,999",
         QuantityAboveN "quantity not 0 above n",
+        NoRight "no such right of the sender",
+        AboveLimit "above the right's limit",
         ClosedChanged "closed position of a kept series changed",
         ClosedNew "closed position of a new series not 0",
         VersionNotMessages "series new or changed: version not the message's",
@@ -67,10 +75,10 @@ impl Broken {
             Day | DayN => 5,
             MessageIdMalformed | OtherMessageId => 6,
             NewSenderVersion0 | NewSenderVersionAbove999 | VersionNotAbove | VersionAbove999 => 6,
-            SeriesIdMalformed | SeriesIdEarlier | SeriesIdStored | PairEarlier | PairStored => 7,
+            SeriesIdMalformed | SeriesIdEarlier | SeriesIdStored | KeyEarlier | KeyStored => 7,
             InParty | OutParty | PartiesEqual | NeitherSender => 8,
-            InArea | OutArea => 9,
-            BusinessType | ContractType | Agreement => 10,
+            InArea | OutArea | BothOurs | NoneOurs | OtherArea => 9,
+            BusinessType | ContractType | Agreement | CapacityContract | CapacityAgreement => 10,
             QuantityTopBit => 11,
             QuantityTooHigh => 12,
             QuantityAboveN => 13,
@@ -78,6 +86,8 @@ impl Broken {
             VersionNotMessages | VersionNotStored => 15,
             SeriesAbsent => 16,
             NoRoom => 17,
+            NoRight => 18,
+            AboveLimit => 19,
         }
     }
 }
@@ -141,7 +151,9 @@ struct Place {
 struct Stored<'book> {
     slot: Option<Slot>,
     by_id: HashMap<Field, (Slot, &'book Block)>,
-    id_by_pair: HashMap<(Field, Field), Field>,
+    id_by_key: HashMap<Key, Field>,
+    /// Rights that it holds, whether it has filed or not.
+    rights: Vec<(Slot, &'book Block)>,
 }
 
 /// All rules, in their order.
@@ -157,16 +169,20 @@ fn plan_for(book: &[u8], message: &[u8]) -> Result<Plan, Verdict> {
 
     let mut places: Vec<Option<(Slot, bool)>> = Vec::new();
     let mut ids: HashSet<Field> = HashSet::new();
-    let mut pairs: HashSet<(Field, Field)> = HashSet::new();
+    let mut keys: HashSet<Key> = HashSet::new();
+    let mut claims = Claims::new();
     for (series, number) in blocks(message).skip(1).zip(1u16..) {
         let before = stored.by_id.get(&field(series, ID)).copied();
         let refuse = |broken| Verdict { series: number, ..Verdict::refused(broken) };
         let at_position = |(broken, position)| Verdict { position, ..refuse(broken) };
         let at_character = |(broken, character)| Verdict { character, ..refuse(broken) };
-        judge_id_and_pair(series, before, &stored, &mut ids, &mut pairs).map_err(refuse)?;
+        judge_id_and_key(series, before, &stored, &mut ids, &mut keys).map_err(refuse)?;
         judge_parties(series, &sender).map_err(at_character)?;
-        judge_kind_of_trade(series, book.day()).map_err(refuse)?;
-        let changed = judge_quantities(series, before.map(|(_, block)| block), book).map_err(at_position)?;
+        judge_areas(series, &book.area()).map_err(refuse)?;
+        judge_capacity(series).map_err(refuse)?;
+        judge_quantities(series, book.n()).map_err(at_position)?;
+        judge_claim(series, book.n(), &stored, &mut claims).map_err(at_position)?;
+        let changed = judge_changes(series, before.map(|(_, block)| block), book).map_err(at_position)?;
         judge_series_version(series, before.map(|(_, block)| block), changed, u16_at(head, VERSION)).map_err(refuse)?;
         places.push(before.map(|(slot, _)| (slot, changed)));
     }
@@ -184,11 +200,12 @@ fn plan_for(book: &[u8], message: &[u8]) -> Result<Plan, Verdict> {
 }
 
 fn stored_of<'book>(book: &SoundBook<'book>, sender: &Field) -> Stored<'book> {
-    let mut stored = Stored { slot: book.sender_slot(sender), ..Stored::default() };
+    let (slot, rights) = (book.sender_slot(sender), book.rights_of(sender));
+    let mut stored = Stored { slot, rights, ..Stored::default() };
     if let Some(owner) = stored.slot {
         for (slot, block) in book.series_of(owner) {
             stored.by_id.insert(field(block, ID), (slot, block));
-            stored.id_by_pair.insert(pair(block), field(block, ID));
+            stored.id_by_key.insert(key(block), field(block, ID));
         }
     }
     stored
@@ -237,40 +254,39 @@ fn judge_day_and_version(book: &SoundBook, head: &Block, stored: &Stored) -> Res
     }
 }
 
-/// Rule 7. Parties are compared as they stand, in party first: rule 8 judges them only later.
-fn judge_id_and_pair(
+/// Rule 7. Keys are compared as they stand: rules 8 to 10 judge their parts only later.
+fn judge_id_and_key(
     series: &Block,
     before: Option<(Slot, &Block)>,
     stored: &Stored,
     ids: &mut HashSet<Field>,
-    pairs: &mut HashSet<(Field, Field)>,
+    keys: &mut HashSet<Key>,
 ) -> Result<(), Broken> {
-    let id = field(series, ID);
-    let parties = pair(series);
+    let (id, own) = (field(series, ID), key(series));
     if !is_well_formed_id(&id) {
         return Err(Broken::SeriesIdMalformed);
     }
     if !ids.insert(id) {
         return Err(Broken::SeriesIdEarlier);
     }
-    if before.map_or(false, |(_, block)| pair(block) != parties) {
+    if before.map_or(false, |(_, block)| key(block) != own) {
         return Err(Broken::SeriesIdStored);
     }
-    if !pairs.insert(parties) {
-        return Err(Broken::PairEarlier);
+    if !keys.insert(own) {
+        return Err(Broken::KeyEarlier);
     }
-    if stored.id_by_pair.get(&parties).map_or(false, |other| *other != id) {
-        return Err(Broken::PairStored);
+    if stored.id_by_key.get(&own).map_or(false, |other| *other != id) {
+        return Err(Broken::KeyStored);
     }
     Ok(())
 }
 
 /// Rule 8, with the wrong character of the party that broke it: the in party is judged first, and
-/// there is none where both codes are good.
+/// there is none where both codes are good. Of an external schedule the sender may be both parties.
 fn judge_parties(series: &Block, sender: &Field) -> Result<(), (Broken, u8)> {
     let (in_party, out_party) = pair(series);
     match (wrong_character(&in_party), wrong_character(&out_party)) {
-        (0, 0) if in_party == out_party => Err((Broken::PartiesEqual, 0)),
+        (0, 0) if in_party == out_party && !is_external(series) => Err((Broken::PartiesEqual, 0)),
         (0, 0) if in_party != *sender && out_party != *sender => Err((Broken::NeitherSender, 0)),
         (0, 0) => Ok(()),
         (0, of_out_party) => Err((Broken::OutParty, of_out_party)),
@@ -278,28 +294,34 @@ fn judge_parties(series: &Block, sender: &Field) -> Result<(), (Broken, u8)> {
     }
 }
 
-/// Rules 9 and 10.
-fn judge_kind_of_trade(series: &Block, day: &Block) -> Result<(), Broken> {
-    let area = field(day, AREA);
-    if field(series, IN_AREA) != area {
-        Err(Broken::InArea)
-    } else if field(series, OUT_AREA) != area {
-        Err(Broken::OutArea)
-    } else if series[BUSINESS_TYPE] != INTERNAL_TRADE {
-        Err(Broken::BusinessType)
-    } else if series[CONTRACT_TYPE] != 0 {
-        Err(Broken::ContractType)
-    } else if field(series, AGREEMENT) != [0; 16] {
-        Err(Broken::Agreement)
-    } else {
-        Ok(())
+/// Rule 9. A type that is none of the three is judged like that of an internal trade.
+fn judge_areas(series: &Block, area: &Field) -> Result<(), Broken> {
+    match (is_external(series), direction(series, area)) {
+        (true, Direction::Within) => Err(Broken::BothOurs),
+        (true, Direction::Elsewhere) => Err(Broken::NoneOurs),
+        (true, Direction::In(other) | Direction::Out(other)) if !is_valid_eic(&other) => Err(Broken::OtherArea),
+        (true, _) | (false, Direction::Within) => Ok(()),
+        (false, Direction::In(_)) => Err(Broken::OutArea),
+        (false, Direction::Out(_) | Direction::Elsewhere) => Err(Broken::InArea),
     }
 }
 
-/// Rules 11 to 13 in one pass over all hundred positions, then rule 14 in another. Tells whether
-/// a quantity differs from the stored series; a new series counts as changed.
-fn judge_quantities(series: &Block, before: Option<&Block>, book: &SoundBook) -> Result<bool, (Broken, Position)> {
-    let n = u16::from(book.n());
+/// Rule 10: a series on a right has both capacity fields, any other neither.
+fn judge_capacity(series: &Block) -> Result<(), Broken> {
+    let (contract_type, agreement) = (series[CONTRACT_TYPE], field(series, AGREEMENT));
+    match series[BUSINESS_TYPE] {
+        INTERNAL_TRADE | WITHOUT_CAPACITY if contract_type != 0 => Err(Broken::ContractType),
+        INTERNAL_TRADE | WITHOUT_CAPACITY if agreement != [0; 16] => Err(Broken::Agreement),
+        WITH_CAPACITY if !is_contract_type(contract_type) => Err(Broken::CapacityContract),
+        WITH_CAPACITY if !is_well_formed_id(&agreement) => Err(Broken::CapacityAgreement),
+        INTERNAL_TRADE | WITHOUT_CAPACITY | WITH_CAPACITY => Ok(()),
+        _ => Err(Broken::BusinessType),
+    }
+}
+
+/// Rules 11 to 13 in one pass over all hundred positions.
+fn judge_quantities(series: &Block, n: u8) -> Result<(), (Broken, Position)> {
+    let n = u16::from(n);
     for (value, position) in quantities(series).zip((1..).map(Position)) {
         let broken = if position.0 > n {
             (value != 0).then_some(Broken::QuantityAboveN)
@@ -312,6 +334,28 @@ fn judge_quantities(series: &Block, before: Option<&Block>, book: &SoundBook) ->
             return Err((broken, position));
         }
     }
+    Ok(())
+}
+
+/// What the series of a message so far claim of each right, by the right's slot.
+type Claims = HashMap<Slot, [u32; POSITIONS]>;
+
+/// Rules 18 and 19: the right that a series with capacity names, and what it claims of it together with the earlier
+/// series of the message. Claims that passed are within the limit, so that one more fits in 32 bits.
+fn judge_claim(series: &Block, n: u8, stored: &Stored, claims: &mut Claims) -> Result<(), (Broken, Position)> {
+    if series[BUSINESS_TYPE] != WITH_CAPACITY {
+        return Ok(());
+    }
+    let (slot, right) = named_among(series, &stored.rights).ok_or((Broken::NoRight, Position(0)))?;
+    let sums = claims.entry(slot).or_insert([0; POSITIONS]);
+    sums.iter_mut().zip(quantities(series)).for_each(|(sum, value)| *sum += value);
+    let above = sums.iter().zip(quantities(right)).take(usize::from(n)).position(|(sum, limit)| *sum > limit);
+    above.map_or(Ok(()), |place| Err((Broken::AboveLimit, Position(place as u16 + 1))))
+}
+
+/// Rule 14, in a pass of its own. Tells whether a quantity differs from the stored series; a new series counts as
+/// changed.
+fn judge_changes(series: &Block, before: Option<&Block>, book: &SoundBook) -> Result<bool, (Broken, Position)> {
     // A new series is held against zeros, so that a late one cannot slip a value into a
     // quarter-hour that is closed.
     let nothing = [0; BLOCK_BYTES];
@@ -387,13 +431,13 @@ fn enter(book: &mut [u8], message: &[u8], plan: &Plan) -> usize {
 
 /// Writes the sender block with its nets.
 fn put_head(book: &mut [u8], message: &[u8], slot: Slot) {
-    let sender = field(block_at(message, 0), SENDER);
+    let (sender, area) = (field(block_at(message, 0), SENDER), field(block_at(book, 0), AREA));
     let mut sums = [0i32; POSITIONS];
     for series in blocks(message).skip(1) {
-        // Bought adds, sold takes away.
-        let bought = field(series, IN_PARTY) == sender;
+        // Bought adds, sold takes away; of external schedules, what comes in adds and what goes out takes away.
+        let up = counts_up(series, &sender, &area);
         for (sum, value) in sums.iter_mut().zip(quantities(series)) {
-            if bought {
+            if up {
                 *sum += value as i32;
             } else {
                 *sum -= value as i32;

@@ -7,17 +7,17 @@ use crate::random::Random;
 /// A valid EIC, or a text that is close to one.
 pub fn eic(random: &mut Random, valid: &Field) -> Vec<u8> {
     let mut code = valid.to_vec();
-    match random.below(12) {
+    match random.below(14) {
         0 | 1 => {}
         2 => code[random.below(16)] = random.byte(),
         3 => code[15] = random.byte(),
         4 => code.truncate(random.below(16)),
         5 | 10 => code.push(b'0'),
-        6 => {
+        6 | 12 => {
             code = vec![b'0'; 16];
             code[15] = names::character(random);
         }
-        7 => code = names::hyphen_eic(random).to_vec(),
+        7 | 13 => code = names::hyphen_eic(random).to_vec(),
         8 | 9 => code = names::look_alike_eic(random).to_vec(),
         _ => code = names::invalid_eic(random).to_vec(),
     }

@@ -24,7 +24,7 @@ impl Generator {
             _ => random.between(1, last.max(1)) as u16,
         };
         self.queue.push_back(Record::Reader { number, message: message.clone() });
-        if random.percent(30) {
+        if random.percent(45) {
             self.queue.push_back(Record::Walk(message));
         }
     }
@@ -49,7 +49,7 @@ impl Generator {
                 edge(ahead) + random.below(2) as i32
             }
             4 => i32::from(kept) - random.between(1, 20) as i32,
-            5 if random.percent(30) => random.pick(&[65_535, 32_768, 20_000]),
+            5 if random.percent(15) => random.pick(&[65_535, 32_768, 20_000]),
             5 => i32::from(LATEST_MINUTE) + 1,
             6 => random.between(0, usize::from(LATEST_MINUTE)) as i32,
             _ => i32::from(LATEST_MINUTE),
@@ -197,7 +197,7 @@ impl Generator {
 
     /// A call that begins by asking whether the book is sound. It is made for the book given.
     pub(super) fn book_call(&mut self, book: &[u8]) {
-        match self.random.below(9) {
+        match self.random.below(10) {
             0 => self.queue.push_back(Record::Sound),
             1 => {
                 let message = self.message(book);
@@ -212,7 +212,8 @@ impl Generator {
             4 => self.mark_or_block(book, false),
             5 => self.final_reading(book),
             6 => self.queue.push_back(Record::Plain),
-            7 => self.queue.push_back(Record::Listing),
+            7 if book.len() <= listing::MOST_BYTES => self.queue.push_back(Record::Listing),
+            7 | 8 => self.any_right(book),
             _ => self.clock(book),
         }
     }
@@ -220,8 +221,8 @@ impl Generator {
     /// Calls that need no book.
     pub(super) fn leaf(&mut self) {
         let random = &mut self.random;
-        let record = match random.weighted(&[16, 4, 6, 4, 2, 2, 4]) {
-            0 if random.percent(60) => {
+        let record = match random.weighted(&[17, 3, 6, 4, 2, 2, 2]) {
+            0 if random.percent(65) => {
                 let character = self.wrong_texts.deal(random);
                 Record::Eic(names::wrong_text_at(random, character))
             }

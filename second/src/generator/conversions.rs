@@ -7,6 +7,7 @@ use crate::conversion::convert;
 use crate::counts::LATEST_MINUTE;
 use crate::crafted;
 use crate::draft::{Draft, Growth, New, Version};
+use crate::external;
 use crate::final_case::last_closed;
 use crate::listing;
 use crate::old_book::{old_book, with_bad_state, BadState, Falsehood};
@@ -68,6 +69,7 @@ cases! {
         Listing,
         Judge,
         Clock,
+        Right,
         Submission,
     }
 }
@@ -95,7 +97,7 @@ impl Generator {
             ConversionTurn::TooLate => self.convert_too_late(book, old),
             ConversionTurn::Old(_) => {
                 self.queue.standing = Standing::Old;
-                for _ in 0..self.random.between(1, 3) {
+                for _ in 0..self.random.between(2, 3) {
                     let dealt = self.old_uses.deal_serving(&mut self.random, |_, use_of| use_of.serves(book));
                     dealt.into_iter().for_each(|(use_of, ())| self.make_use(book, use_of));
                 }
@@ -143,13 +145,19 @@ impl Generator {
         match use_of {
             Use::Mark => self.mark_or_block(book, true),
             Use::Block => self.mark_or_block(book, false),
-            Use::Final => self.next_final(book),
+            Use::Final => self.given_final(book),
             Use::Plain => self.queue.push_back(Record::Plain),
             Use::Listing => self.queue.push_back(Record::Listing),
             Use::Clock => {
                 let kept = usize::from(u16_at(block_at(book, 0), CLOCK));
                 let minute = (kept + self.random.between(1, 40)).min(usize::from(LATEST_MINUTE));
                 self.queue.push_back(Record::Clock(minute as u16));
+            }
+            Use::Right => {
+                let holder = self.random.pick(&self.partners);
+                let mut right = external::right(&mut self.random, block_at(book, 0), &holder, &self.partners);
+                seal(&mut right);
+                self.queue.push_back(Record::Right(right.to_vec()));
             }
             Use::Judge => {
                 let message = self.lawful_message(book);
@@ -181,13 +189,15 @@ impl Generator {
         let sender = random.pick(&answering);
         let free = blocks(book).filter(|block| block[KIND] == 0).count();
         let new = New::UpTo(6.min(free.saturating_sub(1)));
-        let growth = Growth { new, changed: 0, side: None, version: Version::Lawful };
+        let growth = Growth { new, changed: 0, side: None, external: 0, version: Version::Lawful };
         let mut draft = Draft::lawful(random, book, sender, &self.partners, &growth);
         let place = place_of_n(book);
         draft.differ(random, book, &mut self.ways_to_differ[place]);
         let message = draft.finished(random, &[]);
         self.submit_and_show(book, message.clone());
-        self.marks_of_two(book, &message);
+        if self.random.percent(35) {
+            self.marks_of_two(book, &message);
+        }
     }
 
     /// The parties that others filed trades with, and that are not shut out by version 999.
@@ -196,7 +206,7 @@ impl Generator {
         let shut_out = |party: &Field| kept_version(book, party) == Some(HIGHEST_VERSION);
         let owner = |series: &Block| list.get(usize::from(u16_at(series, SENDER_SLOT))).map(|head| field(head, SENDER));
         let mut parties: Vec<Field> = Vec::new();
-        for series in list.iter().skip(1).filter(|block| block[KIND] == KIND_SERIES) {
+        for series in list.iter().skip(1).filter(|block| block[KIND] == KIND_SERIES && is_internal(block)) {
             let (in_party, out_party) = pair(series);
             let other = if owner(series) == Some(in_party) { out_party } else { in_party };
             if !parties.contains(&other) && !shut_out(&other) {
@@ -213,12 +223,16 @@ impl Generator {
         let theirs = |series: &Block| {
             list.iter().skip(1).copied().find(|block| {
                 block[KIND] == KIND_SERIES
+                    && is_internal(block)
                     && pair(block) == pair(series)
                     && field(list[usize::from(u16_at(block, SENDER_SLOT))], SENDER) != sender
             })
         };
-        let sides: Vec<(&Block, &Block)> =
-            blocks(message).skip(1).filter_map(|series| Some((series, theirs(series)?))).collect();
+        let sides: Vec<(&Block, &Block)> = blocks(message)
+            .skip(1)
+            .filter(|series| is_internal(series))
+            .filter_map(|series| Some((series, theirs(series)?)))
+            .collect();
         if !sides.is_empty() {
             let (own, other) = self.random.pick(&sides);
             let owner = list[usize::from(u16_at(other, SENDER_SLOT))];
@@ -257,7 +271,7 @@ impl Generator {
             (true, false) => (self.partners[1], New::Answering),
             (true, true) => (self.random.pick(&self.partners[..2]), New::Answering),
         };
-        let growth = Growth { new, changed: 0, side: None, version: Version::Next };
+        let growth = Growth { new, changed: 0, side: None, external: 0, version: Version::Next };
         let mut draft = Draft::lawful(&mut self.random, book, sender, &self.partners[..2], &growth);
         let small = self.random.percent(50);
         let ways = if small { &mut self.small_ways_to_differ } else { &mut self.ways_to_differ[place_of_n(book)] };
@@ -273,7 +287,9 @@ impl Generator {
                 self.set_book(&after, &old);
                 self.convert_twice(&old);
             }
-            self.marks_of_two(book, &message);
+            if self.random.percent(35) {
+                self.marks_of_two(book, &message);
+            }
         }
     }
 }

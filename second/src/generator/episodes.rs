@@ -126,12 +126,20 @@ impl Generator {
             self.queue.push_back(open);
         }
         let open = self.lawful_opening();
-        let lead = match &open {
-            Record::Open(opening) | Record::OpenBy { opening, .. } => opening.lead,
-            _ => 0,
+        let (lead, n, area) = match &open {
+            Record::Open(opening) | Record::OpenBy { opening, .. } => (opening.lead, opening.n, opening.area.clone()),
+            _ => (0, 0, Vec::new()),
         };
         self.queue.push_back(open);
         self.queue.push_back(Record::Sum);
+        let large = length > 10 * BLOCK_BYTES;
+        if large && !matches!(self.episode, Episode::Limit(_) | Episode::Two) && self.random.percent(45) {
+            let mut day = [0; BLOCK_BYTES];
+            day[N] = n;
+            day[AREA..AREA + 16].copy_from_slice(&area);
+            let number = self.random.between(1, 3);
+            self.first_rights(&day, number);
+        }
         if !matches!(self.episode, Episode::Limit(_) | Episode::Two) && self.random.percent(35) {
             // The clock starts somewhere in the day already.
             let position = self.random.between(1, 60) as u16;
@@ -290,14 +298,16 @@ impl Generator {
 
     pub(super) fn shape(&mut self) -> Shape {
         let random = &mut self.random;
-        let (senders, fewest_series, most_series, free_slots) = match self.episode {
-            Episode::Middling => (random.between(2, 6), 1, 20, random.below(20)),
-            Episode::Long => (random.between(1, 3), 21, 150, random.below(100)),
-            Episode::Full if random.percent(70) => (5, 199, 199, 0),
-            Episode::Full => (4, 190, 200, random.below(201)),
-            _ => (random.between(1, 4), 1, random.between(1, 5), random.below(6)),
+        let (senders, fewest_series, most_series, free_slots, rights) = match self.episode {
+            Episode::Middling => (random.between(2, 6), 1, 20, random.below(20), random.below(10)),
+            Episode::Long => (random.between(1, 3), 21, 150, random.below(100), random.below(30)),
+            // All slots are used.
+            Episode::Full if random.percent(70) => (5, 199, 199, 0, 0),
+            Episode::Full => (4, 190, 200, random.below(201), random.below(100)),
+            _ => (random.between(1, 4), 1, random.between(1, 5), random.below(6), random.below(5)),
         };
-        Shape { senders, fewest_series, most_series, free_slots }
+        let external = random.pick(&[0, 25, 50]);
+        Shape { senders, fewest_series, most_series, free_slots, rights, external }
     }
 
     /// A sound book of this shape; its senders become the partners, with two that are strangers to it.
@@ -312,7 +322,7 @@ impl Generator {
     pub(super) fn crafted_climb(&mut self, book: &[u8]) {
         let shape = self.shape();
         let target = self.crafted_book(&shape);
-        let version = self.random.between(990, usize::from(HIGHEST_VERSION)) as u16;
+        let version = self.random.between(989, usize::from(HIGHEST_VERSION) - 1) as u16;
         let (sender, target) = crafted::with_version(&target, version).expect("a crafted book has a sender");
         self.set_book(book, &target);
         self.start_climb(sender, usize::from(version));
@@ -347,7 +357,7 @@ impl Generator {
         }
         let free = blocks(book).filter(|block| block[KIND] == 0).count();
         let new = New::UpTo(usize::from(free > 2 && self.random.percent(5)));
-        let growth = Growth { new, changed: self.random.pick(&[0, 35, 100]), side: None, version };
+        let growth = Growth { new, changed: self.random.pick(&[0, 35, 100]), side: None, external: 0, version };
         let draft = Draft::lawful(&mut self.random, book, sender, &self.partners, &growth);
         let message = draft.finished(&mut self.random, &[]);
         if kept >= HIGHEST_VERSION - 1 {

@@ -5,7 +5,7 @@ use crate::block::*;
 use crate::counts::{Minute, Position, DAY_START, LATEST_MINUTE};
 use crate::day::move_clock;
 use crate::draft::{Draft, Growth, New, Side, Version};
-use crate::final_case::{last_closed, sides};
+use crate::final_case::{last_closed, sides, FinalCase};
 use crate::random::Random;
 use crate::sound::is_sound;
 use crate::stream::Record;
@@ -22,12 +22,46 @@ impl Generator {
         for _ in 0..self.random.between(1, 3) {
             self.next_final(&book);
         }
+        if self.random.percent(35) {
+            self.final_of_external(&book);
+        }
+    }
+
+    /// A final at a closed position for the two parties of an external schedule, if there is one.
+    fn final_of_external(&mut self, book: &[u8]) {
+        let external: Vec<(Field, Field)> =
+            blocks(book).skip(1).filter(|block| block[KIND] == KIND_SERIES && is_external(block)).map(pair).collect();
+        let last = last_closed(block_at(book, 0));
+        if last > 0 && !external.is_empty() {
+            let (in_party, out_party) = self.random.pick(&external);
+            let position = self.random.between(1, usize::from(last)) as u16;
+            self.ask_for_final(&out_party, &in_party, position);
+        }
     }
 
     /// A final at a closed position, in the case that is next in turn for the book's rule. The book is sound.
-    pub(super) fn next_final(&mut self, book: &[u8]) {
-        let cases = &mut self.final_cases[usize::from(book[RULE])];
-        let dealt = cases.deal_serving(&mut self.random, |random, case| case.found(random, book, &self.partners));
+    fn next_final(&mut self, book: &[u8]) {
+        self.final_in(book, |_| true);
+    }
+
+    /// The same, of a trade that somebody filed.
+    pub(super) fn given_final(&mut self, book: &[u8]) {
+        self.final_in(book, |case| case != FinalCase::Neither);
+    }
+
+    fn final_in(&mut self, book: &[u8], such: impl Fn(FinalCase) -> bool) {
+        let (cases, partners) = (&mut self.final_cases[usize::from(book[RULE])], &self.partners);
+        let dealt =
+            cases.deal_serving(
+                &mut self.random,
+                |random, case| {
+                    if such(case) {
+                        case.found(random, book, partners)
+                    } else {
+                        None
+                    }
+                },
+            );
         if let Some((_, (out_party, in_party, position))) = dealt {
             self.ask_for_final(&out_party, &in_party, position);
         }
@@ -91,7 +125,7 @@ fn answer_too_late(
             (Side::Sells, (None, Some(1..))) => out_party,
             _ => return None,
         };
-        let growth = Growth { new: New::Answering, changed: 0, side: None, version: Version::Lawful };
+        let growth = Growth { new: New::Answering, changed: 0, side: None, external: 0, version: Version::Lawful };
         let message = Draft::lawful(random, book, sender, partners, &growth).finished(random, &[]);
         (judge(book, &message).number() == 0).then_some((out_party, in_party, position, message))
     })

@@ -99,7 +99,7 @@ impl Generator {
         if self.random.percent(50) {
             ordered = crafted::with_false_partners(&mut self.random, &ordered, &sender);
         }
-        let growth = Growth { new: New::UpTo(0), changed: 35, side: None, version: Version::Lawful };
+        let growth = Growth { new: New::UpTo(0), changed: 35, side: None, external: 0, version: Version::Lawful };
         let draft = Draft::lawful(&mut self.random, &ordered, sender, &self.partners, &growth);
         let message = draft.finished(&mut self.random, &[]);
         self.set_book(book, &ordered);

@@ -36,7 +36,12 @@ impl Generator {
         };
         let side = random.pick(&[Side::Buys, Side::Sells]);
         let side = Some(side).filter(|_| large && random.percent(40));
-        Growth { new, changed, side, version: Version::Lawful }
+        Growth { new, changed, side, external: self.external_share(), version: Version::Lawful }
+    }
+
+    /// How many new series in a hundred are to be external schedules.
+    fn external_share(&mut self) -> usize {
+        self.random.pick(&[0, 25, 25, 60])
     }
 
     /// Seldom one at version 999, which files in vain.
@@ -75,10 +80,10 @@ impl Generator {
         let mut sender = self.sender(book);
         let mut growth = self.growth(book);
         let random = &mut self.random;
-        let kind = random.weighted(&[28, 6, 38, 14, 8, 5, 18, 2, 1]);
+        let kind = random.weighted(&[15, 6, 48, 14, 8, 5, 18, 2, 1]);
         match kind {
             // A message that changes nothing.
-            1 => growth = Growth { new: New::UpTo(0), changed: 0, side: None, version: Version::Lawful },
+            1 => growth = Growth { new: New::UpTo(0), changed: 0, side: None, external: 0, version: Version::Lawful },
             // A lawful message of a sender whose code ends in a hyphen.
             8 => sender = names::hyphen_eic(random),
             _ => {}
@@ -109,13 +114,8 @@ impl Generator {
 
     /// Two rules that follow each other, mostly at one series: the lower one must decide.
     pub(super) fn break_neighbours(&mut self, draft: &mut Draft, place: usize) {
-        let random = &mut self.random;
-        let lower = self.neighbours.deal(random);
-        for rule in [lower + 1, lower] {
-            let fault = Fault::of_rule(random, rule);
-            let place = place.min(draft.blocks.len() - 1);
-            draft.spoil(random, fault, place, &self.partners);
-        }
+        let (lower, higher) = self.neighbours.deal(&mut self.random);
+        draft.break_two(&mut self.random, lower, higher, place, &self.partners);
     }
 
     /// A fault of form that is next in turn, and sometimes others beside it, or a sender's code that no
@@ -165,7 +165,7 @@ impl Generator {
                 let free = blocks(book).filter(|block| block[KIND] == 0).count();
                 let new = if free <= 200 { New::Filling(0) } else { New::Exactly(random.between(190, 200)) };
                 let side = random.pick(&[Some(Side::Buys), Some(Side::Sells), None, None, None]);
-                let growth = Growth { new, changed: 0, side, version: Version::Lawful };
+                let growth = Growth { new, changed: 0, side, external: 15, version: Version::Lawful };
                 Draft::lawful(random, book, sender, &self.partners, &growth).finished(random, &[])
             }
         };
@@ -178,7 +178,7 @@ impl Generator {
         let sender = self.partners[0];
         let filed = senders_of(book).contains(&sender);
         let new = New::Exactly(if filed { 0 } else { usize::from(MOST_SERIES) });
-        let growth = Growth { new, changed: 0, side: Some(side), version: Version::Lawful };
+        let growth = Growth { new, changed: 0, side: Some(side), external: 25, version: Version::Lawful };
         let mut draft = Draft::lawful(random, book, sender, &self.partners, &growth);
         if filed {
             draft.move_about_limit(random);
@@ -206,7 +206,7 @@ impl Generator {
         self.queue.push_back(Record::Sum);
     }
 
-    /// A message submitted or judged, or both: the one about as often as the other.
+    /// A message submitted or judged, or both.
     pub(super) fn submission(&mut self, book: &[u8]) {
         let message = self.message(book);
         match self.random.below(40) {
@@ -219,7 +219,7 @@ impl Generator {
         }
         // A book grows by what is submitted, so few messages that it takes are judged alone. Judged once
         // they are in, they are stale.
-        let weights = if is_accepted(book, &message) { [10, 40, 43, 7] } else { [22, 36, 42, 0] };
+        let weights = if is_accepted(book, &message) { [8, 8, 79, 5] } else { [24, 28, 48, 0] };
         match self.random.weighted(&weights) {
             0 => self.judge_and_show(message),
             1 => {

@@ -58,7 +58,8 @@ pub fn looks(message: &[u8], looked: usize, before: &[u8], book: &[u8]) -> Vec<S
 /// By plain search: a pair belongs to two senders at most.
 fn row<'book>(book: &SoundBook<'book>, slot: Slot, block: &'book Block) -> Row<'book> {
     let of_other = |other: &Block| u16_at(other, SENDER_SLOT) != u16_at(block, SENDER_SLOT);
-    let found = book.series().find(|(_, other)| of_other(other) && pair(other) == pair(block));
+    let of_trade = |other: &Block| is_internal(block) && is_internal(other) && pair(other) == pair(block);
+    let found = book.series().find(|(_, other)| of_other(other) && of_trade(other));
     Row { slot, block, partner: found.map(|(partner, other)| (partner, Slot(u16_at(other, SENDER_SLOT)))) }
 }
 

@@ -64,6 +64,7 @@ pub fn plain_says_no(book: &[u8]) -> Vec<Sight> {
     let alone = found.number() == 1;
     held(&[
         (true, Sight::PlainNo),
+        (blocks(book).skip(1).any(|b| b[KIND] == KIND_SERIES && is_external(b)), Sight::PlainNoExternal),
         (alone && found.byte_104, Sight::PlainNoCount),
         (alone && found.first, Sight::PlainNoFirst),
         (alone && found.partner, Sight::PlainNoPartner),
