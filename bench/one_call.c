@@ -1,6 +1,6 @@
 /* one_call CALL TIMES BOOK MESSAGE [AFTER]: makes a call on the book of a file, none or one time, prints the verdict and writes the book that is left.
-   CALL is submit, sound, convert or checks. With more TIMES it prints the median of their microseconds of processor time, each call on the book as read.
-   one_call.rs is its twin. */
+   CALL is submit, sound, convert, enter (of the right in the file MESSAGE) or checks. With more TIMES it prints the median of their microseconds of processor
+   time, each call on the book as read. one_call.rs is its twin. */
 #include "../include/tetherbay.h"
 #include <stdio.h>
 #include <stdlib.h>
@@ -26,6 +26,7 @@ static tetherbay_verdict call(const char *what, size_t length) {
     if (!strcmp(what, "submit")) return tetherbay_submit(book, length, message, message_length).verdict;
     if (!strcmp(what, "sound")) v.number = tetherbay_sound(book, length);
     if (!strcmp(what, "convert")) v.number = tetherbay_convert(book, length);
+    if (!strcmp(what, "enter")) v.number = tetherbay_enter_right(book, length, message, message_length);
     if (!strcmp(what, "checks")) v.number = tetherbay_checks_right(book, length);
     return v;
 }

@@ -4,6 +4,7 @@ use std::env;
 use std::fs;
 
 use second::conversion::convert;
+use second::right::enter;
 use second::sound::is_sound;
 use second::submission::submit;
 
@@ -15,6 +16,7 @@ fn call(what: &str, book: &mut [u8], message: &[u8]) -> (u32, usize, usize) {
         }
         "sound" => (u32::from(is_sound(book)), 0, 0),
         "convert" => (u32::from(convert(book)), 0, 0),
+        "enter" => (u32::from(enter(book, message)), 0, 0),
         _ => (0, 0, 0),
     }
 }

@@ -4,9 +4,9 @@
    return, and reads and writes nothing outside it. A pointer may be any but null where its length is 0. crates/export/src has each call's promise as it
    is proved, docs/PROMISES.md the same in words.
 
-   Open, convert, clock and submit alter the book that they are lent, seal its block, print and listing their text; no other buffer is altered, and no call
-   alters one that is const here. No other buffer of such a call may be the one that it alters, or overlap it: not the day, area or receiver of an opening, nor
-   the message of a submission, nor the book that is listed. Buffers that a call only reads may be one, or overlap.
+   Open, convert, clock, enter_right and submit alter the book that they are lent, seal its block, print and listing their text; no other buffer is altered, and
+   no call alters one that is const here. No other buffer of such a call may be the one that it alters, or overlap it: not the day, area or receiver of an opening,
+   nor the right that is entered, nor the message of a submission, nor the book that is listed. Buffers that a call only reads may be one, or overlap.
 
    Where an answer has a number, 0 says that the call did what was asked; any other is a refusal, which leaves every byte of the buffers as it was and
    every other field of the answer 0, unless its comment says otherwise. Seal refuses by false, listing by 0, accepted_block and series by an empty part. A
@@ -21,7 +21,7 @@
 
 /* Bytes of stack that a call needs at most. No call takes other memory than that, nor more of it for a larger buffer. Measured, not proved: submit needs
    most, docs/PERFORMANCE.md has the others. */
-#define TETHERBAY_STACK 40960
+#define TETHERBAY_STACK 45056
 
 /* ---- blocks, fields and text */
 
@@ -76,14 +76,18 @@ typedef struct {
 } tetherbay_reply_answer;
 
 /* How the sender of a message is to be answered, by the number of its submission: acknowledged where the number has a code; told by a desk notice on 1 and 17;
-   told that the message can't be read where any other number has none. */
+   told that the message can't be read where any other number has none. 40, which no submission gives, is a desk notice too. */
 tetherbay_reply_answer tetherbay_reply(uint32_t number);
 
 /* ---- a day book: blocks of 512 bytes, from 2 to 1,001 of them, the day block and then slots 1, 2 and on
 
-   Of a book that was opened or converted and that only open, convert, clock and submit have altered since: its marks and nets are what the plain matching
-   rule gives on the messages that submit has answered with 0 since then, and a final value once given is given unchanged until the book is opened again. A
-   conversion begins these messages with one for each sender, made of the blocks that the book keeps. */
+   A used slot holds a sender, a series of one, or a right to capacity. A series is a trade within the book's area, business type 2 (A02), or an external schedule:
+   type 3 (A03), which is sent on a right that its sender holds, or 6 (A06), without capacity. A sender's net is the sum of what it buys in trades less what it
+   sells; an external schedule, whatever its parties, counts + in it where its in area is the book's, and - where its out area is.
+
+   Of a book that was opened or converted and that only open, convert, clock, enter_right and submit have altered since: its marks and nets are what the plain
+   matching rule gives on the messages that submit has answered with 0 since then, and a final value once given is given unchanged until the book is opened again.
+   A conversion begins these messages with one for each sender, made of the blocks that the book keeps. */
 
 /* Whether the buffer is a sound book; the book is only read. Every other call on a book but open and convert asks this first, and refuses with 1 where it
    is not. */
@@ -133,9 +137,20 @@ typedef struct {
    clock or above 11,580. */
 tetherbay_clock_answer tetherbay_clock(uint8_t *book, size_t length, uint16_t minute);
 
-/* 0, or the number of the first broken rule, 1 to 17, with its reason code (1 for A01 on 0; 0 where a number has none); 7 to 15 give the number of the
-   series and 11 to 14 the position, no other does. On 4 and 8 also which character is wrong, as tetherbay_eic gives it: on 4 of the sender; on 8 of the in party (the
-   buyer), or of the out party where the in party is a valid EIC, 0 where both are, and equal or neither the sender. On every other number it is 0. */
+/* Enters a right to capacity, on which its holder may send external schedules (A03). A rights block has the layout of a series: kind 4 in byte 0, the book's n in
+   byte 1, then zeros, business type 3 in byte 4 and a contract type from 1 to 99 in byte 5; zeros in bytes 6 to 23; in area and out area in 24 to 55, of which
+   exactly one is the book's and the other is a valid EIC; the holder, a valid EIC that need not be a sender of the book, as in party and as out party in 56 to 87;
+   the agreement, an id, in 88 to 103; zeros in 104 to 107; in 108 to 507 a hundred limits in kilowatts, at most 9,999,999 each and 0 above n; then the check.
+   Alters the book: on 0 the block stands as it is given in the lowest free slot, and no other byte has changed. It is entered once, and no later call but an opening
+   alters it. 1 where the book is not sound; else 40 where the buffer is no such block, or where a right is kept that has the same bytes 0 to 107, so that it differs
+   in limits at most; else 17 where no slot is free. */
+uint32_t tetherbay_enter_right(uint8_t *book, size_t length, const uint8_t *right, size_t right_length);
+
+/* 0, or the number of the first broken rule, 1 to 19, with its reason code (1 for A01 on 0; 0 where a number has none); 7 to 15, 18 and 19 give the number of the
+   series, and 11 to 14 and 19 the position, no other does. 18 and 19, both A59, are asked of each series after 13 and before 14: 18 where an A03 series names no
+   right that its sender holds, by areas, contract type and agreement; 19 at the lowest position at which this series and the earlier ones of the message on that
+   right are together above its limit. On 4 and 8 also which character is wrong, as tetherbay_eic gives it: on 4 of the sender; on 8 of the in party (the buyer of a
+   trade), or of the out party where the in party is a valid EIC, 0 where both are, and equal in a trade or neither the sender. On every other number it is 0. */
 typedef struct {
     uint32_t number;
     uint8_t code;
@@ -144,8 +159,8 @@ typedef struct {
     uint8_t character;
 } tetherbay_verdict;
 
-/* The verdict, and how many slots the search for counterparts looked at. On 0 these are all used slots as they are after the call, each once, the sender's own and
-   the new ones among them: never more than the used slots and the series of the message together. On a refusal 0. */
+/* The verdict, and how many slots the search for counterparts looked at. On 0 these are all used slots as they are after the call, each once, the sender's own, the
+   new ones and the rights among them: never more than the used slots and the series of the message together. On a refusal 0. */
 typedef struct {
     tetherbay_verdict verdict;
     size_t looked;
@@ -158,7 +173,8 @@ tetherbay_submit_answer tetherbay_submit(uint8_t *book, size_t length, const uin
 tetherbay_verdict tetherbay_judge(const uint8_t *book, size_t length, const uint8_t *message, size_t message_length);
 
 /* 0 and the kept mark: at how many positions the counterpart differs, the first of these and the counterpart's slot. A series that has no counterpart has 0, 0
-   and slot 0, one whose counterpart agrees 0, 0 and its slot. The code is 9 (A09) where they differ, 28 (A28) where there is no counterpart, else 0. */
+   and slot 0, and so has every external schedule, since only trades are paired; one whose counterpart agrees has 0, 0 and its slot. The code is 9 (A09) where
+   they differ, 28 (A28) where there is no counterpart, else 0. */
 typedef struct {
     uint32_t number;
     uint8_t differ;
@@ -167,7 +183,7 @@ typedef struct {
     size_t partner;
 } tetherbay_mark_answer;
 
-/* The mark of a sender's series; the book is only read. 1 where the book is not sound; 23 where it keeps no such series. */
+/* The mark of a sender's series, a trade or an external schedule; the book is only read. 1 where the book is not sound; 23 where it keeps no such series. */
 tetherbay_mark_answer tetherbay_mark(const uint8_t *book, size_t length, const uint8_t *sender, size_t sender_length, const uint8_t *id, size_t id_length);
 
 /* A part of a buffer that the caller lent: where it begins and how many bytes it has. Offset 0 and length 0 where there is none. */
@@ -176,7 +192,8 @@ typedef struct {
     size_t length;
 } tetherbay_part;
 
-/* The block of a sender's series, 512 bytes of the book, which is only read; none where the book is not sound or keeps no such series. */
+/* The block of a sender's series, a trade or an external schedule, 512 bytes of the book, which is only read; none where the book is not sound or keeps no such
+   series. A right is no series. */
 tetherbay_part tetherbay_accepted_block(const uint8_t *book, size_t length, const uint8_t *sender, size_t sender_length, const uint8_t *id, size_t id_length);
 
 /* 0, 1, 24, 25 or 26, and on 0 the kilowatts. */
@@ -187,7 +204,7 @@ typedef struct {
 
 /* The final value of a trade at a position, by the book's rule: the lesser of the seller's and the buyer's quantity, or the seller's; a side that keeps no such
    series counts 0, so that by the lesser rule a trade that one side alone keeps settles at 0. The book is only read. 1 where it is not sound; else 24 where the
-   position is 0 or above n; else 25 where it is not closed yet; else 26 where neither party keeps a series of the two. */
+   position is 0 or above n; else 25 where it is not closed yet; else 26 where neither party keeps a trade of the two: an external schedule has no final value. */
 tetherbay_final_answer tetherbay_final(const uint8_t *book, size_t length, const uint8_t *seller, size_t seller_length, const uint8_t *buyer, size_t buyer_length,
                                        size_t position);
 
@@ -200,12 +217,18 @@ typedef struct {
 /* Works all marks and nets out afresh and compares; the book is only read. */
 tetherbay_plain_run_answer tetherbay_plain_run(const uint8_t *book, size_t length);
 
-/* Prints the listing of a book of at most 64 blocks, which is only read: a header, then one line per series by ascending slot, with the kept marks; "too long" where the book
-   has more than 32,768 bytes, else "not sound" where it is not. Every line ends in a newline, no zero byte follows, and bytes after the text stay.
-   The text's length; 0 where the buffer is too short for the whole of it, and then nothing is written. 6,000 bytes are always enough. */
+/* Prints the listing of a book of at most 64 blocks, which is only read: a header, then one line per series by ascending slot, with the kept marks; external
+   schedules are among them, rights are not. "too long" where the book has more than 32,768 bytes, else "not sound" where it is not. Every line ends in a newline, no
+   zero byte follows, and bytes after the text stay. The text's length; 0 where the buffer is too short for the whole of it, and then nothing is written. 6,000 bytes
+   are always enough. */
 size_t tetherbay_listing(const uint8_t *book, size_t length, uint8_t *buffer, size_t buffer_length);
 
-/* ---- a message: 2 to 201 blocks of 512 bytes, the sender's and then its series */
+/* ---- a message: 2 to 201 blocks of 512 bytes, the sender's and then its series
+
+   One party of a series is the sender. A trade has the book's area twice, two different parties and no contract type or agreement. An external schedule has the
+   book's area once and beside it another valid EIC, and both its parties may be the sender; on a right (A03) it has that right's contract type and agreement,
+   without capacity (A06) neither. A message may have series of all three types. To an id of the sender belongs one key, which is business type, areas, parties,
+   contract type and agreement together, and to a key one id. */
 
 /* Series 1, 2 and on of a message, 512 bytes of it each; none for 0, past the last, or where the message breaks rule 2. */
 tetherbay_part tetherbay_series(const uint8_t *message, size_t length, size_t number);

@@ -46,6 +46,9 @@ static void replies(void) {
     replied(3, TETHERBAY_ACKNOWLEDGEMENT, 2, 53);
     replied(16, TETHERBAY_ACKNOWLEDGEMENT, 2, 52);
     replied(17, TETHERBAY_DESK_NOTICE, 0, 0);
+    replied(18, TETHERBAY_ACKNOWLEDGEMENT, 2, 59);
+    replied(19, TETHERBAY_ACKNOWLEDGEMENT, 2, 59);
+    replied(40, TETHERBAY_DESK_NOTICE, 0, 0);
     replied(UINT32_MAX, TETHERBAY_UNINTERPRETABLE_MESSAGE, 0, 0);
 }
 
@@ -96,6 +99,10 @@ static void leaves(void) {
     is("print, 32", tetherbay_quantity_print(60000, text, 5).number, 32);
     is("code of 0", tetherbay_reason_code(0), 1);
     is("code of 4", tetherbay_reason_code(4), 78);
+    is("code of 17", tetherbay_reason_code(17), 0);
+    is("code of 18", tetherbay_reason_code(18), 59);
+    is("code of 19", tetherbay_reason_code(19), 59);
+    is("code of 40", tetherbay_reason_code(40), 0);
     is("code of the largest number", tetherbay_reason_code(UINT32_MAX), 0);
     replies();
 }
@@ -280,12 +287,182 @@ static void conversions(void) {
     is("converted", (uint64_t)memcmp(book, before, sizeof book), 0);
 }
 
+/* ---- rights and external schedules, in a new book of seven slots: the right, party 1 and its two series, party 2 and its two */
+
+static uint8_t right[2 * BLOCK];
+
+/* A right of party 1 to bring in 2,000 kW at the first position and two more at each that follows. */
+static void write_right(void) {
+    right_block(right, book, 1, 1, true, 2000, 2);
+    tetherbay_seal(right, BLOCK);
+}
+
+/* On a refusal the book stays as it was, and the next right is party 1's once more. */
+static void enter_refused(const char *what, size_t length, uint32_t number) {
+    static uint8_t before[sizeof book];
+    memcpy(before, book, sizeof book);
+    is(what, tetherbay_enter_right(book, sizeof book, right, length), number);
+    is_field(what, "a byte written", (uint64_t)memcmp(book, before, sizeof book), 0);
+    write_right();
+}
+
+static void altered(const char *what, size_t at, uint8_t byte) {
+    right[at] = byte;
+    tetherbay_seal(right, BLOCK);
+    enter_refused(what, BLOCK, 40);
+}
+
+static void malformed(void) {
+    write_right();
+    altered("enter, another kind", 0, 2);
+    altered("enter, another n", 1, 96);
+    altered("enter, a version", 2, 1);
+    altered("enter, another business type", 4, 6);
+    altered("enter, contract type 0", 5, 0);
+    altered("enter, contract type 100", 5, 100);
+    altered("enter, a slot", 7, 1);
+    altered("enter, an id", 8, 'A');
+    altered("enter, no area ours", 24, '9');
+    memcpy(right + 40, book + 24, 16);
+    altered("enter, both areas ours", 0, 4);
+    altered("enter, the other area no EIC", 55, '-');
+    memcpy(right + 72, eic(2), 16);
+    altered("enter, two holders", 0, 4);
+    memset(right + 56, '0', 32);
+    altered("enter, a holder that is no EIC", 0, 4);
+    altered("enter, no agreement", 88, 0);
+    altered("enter, a mark", 104, 1);
+    altered("enter, a limit above 9,999,999", 108 + 4 * 99 + 2, 0x99);
+    right[508] ^= 1;
+    enter_refused("enter, a wrong check", BLOCK, 40);
+    enter_refused("enter, no byte", 0, 40);
+    enter_refused("enter, a byte short", BLOCK - 1, 40);
+    enter_refused("enter, a byte long", BLOCK + 1, 40);
+    enter_refused("enter, two blocks", 2 * BLOCK, 40);
+}
+
+/* The block as given in slot 1, and no other byte. */
+static void entered(void) {
+    static uint8_t expected[sizeof book];
+    memcpy(expected, book, sizeof book);
+    write_right();
+    memcpy(expected + BLOCK, right, BLOCK);
+    is("enter", tetherbay_enter_right(book, sizeof book, right, BLOCK), 0);
+    is("entered", (uint64_t)memcmp(book, expected, sizeof book), 0);
+    enter_refused("enter it again", BLOCK, 40);
+    right_block(right, book, 1, 1, true, 7, 0);
+    tetherbay_seal(right, BLOCK);
+    enter_refused("enter it with other limits", BLOCK, 40);
+}
+
+/* Two schedules of a party on the right of party 1, at its limit together at each position. The second has the parties of a trade. */
+static void write_on_right(unsigned party, unsigned version) {
+    sender_block(message, book, party, version, 2);
+    external_block(message + BLOCK, book, 1, version, party, party, true, 1200);
+    external_block(message + 2 * BLOCK, book, 2, version, 2, 1, true, 800);
+    for (size_t k = 1; k <= 2; k++) name_right(message + BLOCK * k, book, 1, true);
+    seal_message();
+}
+
+static void judged(const char *what, tetherbay_verdict expected) {
+    seal_message();
+    verdict(what, tetherbay_judge(book, sizeof book, message, sizeof message), expected);
+    submitted(what, expected, 0);
+    write_on_right(1, 1);
+}
+
+static void on_rights(void) {
+    uint8_t *first = message + BLOCK, *second = message + 2 * BLOCK;
+    write_on_right(2, 1);
+    judged("a right that another holds", (tetherbay_verdict){18, 59, 1, 0, 0});
+    second[5] = 99;
+    judged("another contract type", (tetherbay_verdict){18, 59, 2, 0, 0});
+    second[101] = 'X';
+    judged("another agreement", (tetherbay_verdict){18, 59, 2, 0, 0});
+    cross_border(second, book, false);
+    judged("another direction", (tetherbay_verdict){18, 59, 2, 0, 0});
+    put(first + 108 + 4 * 4, 4, 2000 + 2 * 4 + 1);
+    judged("one above the limit", (tetherbay_verdict){19, 59, 1, 5, 0});
+    put(second + 108 + 4 * 99, 4, 800 + 99 + 1);
+    put(second + 108 + 4 * 97, 4, 800 + 97 + 1);
+    judged("one above it together", (tetherbay_verdict){19, 59, 2, 98, 0});
+    memcpy(second + 40, book + 24, 16);
+    judged("both areas ours", (tetherbay_verdict){9, 23, 2, 0, 0});
+    second[88] = 0;
+    judged("a schedule on no agreement", (tetherbay_verdict){10, 62, 2, 0, 0});
+    second[4] = 6;
+    judged("capacity without a right", (tetherbay_verdict){10, 62, 2, 0, 0});
+    second[4] = 2;
+    judged("a trade over the border", (tetherbay_verdict){9, 23, 2, 0, 0});
+    memcpy(second + 56, first + 56, 32);
+    judged("one key twice", (tetherbay_verdict){7, 55, 2, 0, 0});
+    submitted("submit at the limit", (tetherbay_verdict){0, 1, 0, 0, 0}, 4); /* the right is looked at too */
+    write_on_right(1, 2);
+    external_block(first, book, 1, 2, 1, 1, true, 1200);
+    judged("an id with another key", (tetherbay_verdict){7, 55, 1, 0, 0});
+}
+
+/* A purchase from party 1, which keeps no trade of the two, and a schedule out of the area with the sender on both sides. */
+static void without_capacity(void) {
+    sender_block(message, book, 2, 1, 2);
+    series_block(message + BLOCK, book, 1, 1, 2, 1, 500);
+    external_block(message + 2 * BLOCK, book, 2, 1, 2, 2, false, 700);
+    seal_message();
+    submitted("submit without capacity", (tetherbay_verdict){0, 1, 0, 0, 0}, 7);
+    is("net, both on the right", number(book + 2 * BLOCK + 108 + 4 * 99, 4), 2000 + 2 * 99);
+    is("net, bought less gone out", number(book + 5 * BLOCK + 108 + 4 * 99, 4), UINT32_MAX - 199);
+}
+
+static void external_readings(void) {
+    uint8_t one[16], two[16], id[16] = "SERIES-0002", text[400];
+    memcpy(one, eic(1), 16);
+    memcpy(two, eic(2), 16);
+    mark("mark on a right", 1, "SERIES-0001", (tetherbay_mark_answer){0, 0, 28, 0, 0});
+    mark("mark on a right, a trade's parties", 1, "SERIES-0002", (tetherbay_mark_answer){0, 0, 28, 0, 0});
+    mark("mark of the trade", 2, "SERIES-0001", (tetherbay_mark_answer){0, 0, 28, 0, 0});
+    mark("mark without capacity", 2, "SERIES-0002", (tetherbay_mark_answer){0, 0, 28, 0, 0});
+    is("accepted block without capacity", tetherbay_accepted_block(book, sizeof book, two, 16, id, 16).offset, 7 * BLOCK);
+    is("listing with schedules, length", tetherbay_listing(book, sizeof book, text, sizeof text), 47 + 4 * 71);
+    is("clock, number", tetherbay_clock(book, sizeof book, 11580).number, 0);
+    tetherbay_final_answer f = tetherbay_final(book, sizeof book, one, 16, two, 16, 1);
+    is("final beside a schedule, number", f.number, 0);
+    is("final beside a schedule", f.kilowatts, 0); /* the lesser: no trade of the seller's */
+    is("final on a right, 26", tetherbay_final(book, sizeof book, one, 16, one, 16, 1).number, 26);
+    is("final without capacity, 26", tetherbay_final(book, sizeof book, two, 16, two, 16, 1).number, 26);
+    is("plain run with schedules", tetherbay_plain_run(book, sizeof book).holds, true);
+}
+
+/* No slot is free: a right that is malformed, or kept already, is told so before that. */
+static void full(void) {
+    static uint8_t before[sizeof book];
+    right_block(right, book, 1, 1, false, 2000, 2);
+    tetherbay_seal(right, BLOCK);
+    enter_refused("enter into a full book", BLOCK, 17);
+    enter_refused("enter it again, no slot free", BLOCK, 40);
+    enter_refused("enter, a byte short, no slot free", BLOCK - 1, 40);
+    memcpy(before, book, sizeof book);
+    old_layout(book, sizeof book);
+    is("convert with rights", tetherbay_convert(book, sizeof book), 0);
+    is("converted with rights", (uint64_t)memcmp(book, before, sizeof book), 0);
+}
+
+static void rights(void) {
+    opened("open for rights", tetherbay_open(book, sizeof book, 100, 0, bytes("20190131"), 8, bytes("10YAT-APG------L"), 16, bytes("14XAT-APCS-----Q"), 16), 0, 0);
+    malformed();
+    entered();
+    on_rights();
+    without_capacity();
+    external_readings();
+    full();
+}
+
 int main(void) {
     leaves();
     openings();
     submissions();
     readings();
     conversions();
+    rights();
     is("sound", tetherbay_sound(book, sizeof book), true);
     put(book + 6, 1, 2);
     tetherbay_seal(book, BLOCK);
@@ -294,6 +471,8 @@ int main(void) {
     tetherbay_seal(book, BLOCK);
     is("sound, a byte that must be 0", tetherbay_sound(book, sizeof book), false);
     submitted("submit, 1", (tetherbay_verdict){1, 0, 0, 0, 0}, 0);
+    enter_refused("enter, 1", BLOCK, 1);
+    enter_refused("enter no byte, 1", 0, 1);
     is("plain run, 1", tetherbay_plain_run(book, sizeof book).number, 1);
     is("plain run, 1, holds", tetherbay_plain_run(book, sizeof book).holds, false);
     printf("%u answers asked for, %u wrong\n", asked, wrong);

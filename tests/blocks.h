@@ -59,6 +59,41 @@ static inline void series_block(uint8_t *x, const uint8_t *day, unsigned k, unsi
     for (unsigned p = 0; p < day[1]; p++) put(x + 108 + 4 * p, 4, base + p);
 }
 
+/* The area beyond the border, by the number of its EIC. */
+enum { ABROAD = 9002 };
+
+/* The two areas of what comes in over the border, or goes out. */
+static inline void cross_border(uint8_t *x, const uint8_t *day, bool in) {
+    memcpy(x + (in ? 24 : 40), day + 24, 16);
+    memcpy(x + (in ? 40 : 24), eic(ABROAD), 16);
+}
+
+/* What right k and a series on it (A03) have in common: business type, contract type, areas and agreement. */
+static inline void name_right(uint8_t *x, const uint8_t *day, unsigned k, bool in) {
+    x[4] = 3;
+    x[5] = (uint8_t)(1 + k % 99);
+    cross_border(x, day, in);
+    snprintf((char *)x + 88, 16, "AGREEMENT-%04u", k % 10000);
+}
+
+/* Right k of a party: at each position of the day a limit that is a step above that of the position before it. Its check is not yet put right. */
+static inline void right_block(uint8_t *r, const uint8_t *day, unsigned k, unsigned holder, bool in, uint32_t base, uint32_t step) {
+    memset(r, 0, BLOCK);
+    r[0] = 4;
+    r[1] = day[1];
+    name_right(r, day, k, in);
+    memcpy(r + 56, eic(holder), 16);
+    memcpy(r + 72, eic(holder), 16);
+    for (unsigned p = 0; p < day[1]; p++) put(r + 108 + 4 * p, 4, base + step * p);
+}
+
+/* Series k of a message as an external schedule without capacity (A06); name_right puts it on a right. Its quantities go up as those of a trade. */
+static inline void external_block(uint8_t *x, const uint8_t *day, unsigned k, unsigned version, unsigned in_party, unsigned out_party, bool in, uint32_t base) {
+    series_block(x, day, k, version, in_party, out_party, base);
+    x[4] = 6;
+    cross_border(x, day, in);
+}
+
 /* Whole blocks of a book as the old layout had them: byte 104 of a series is a state, here 1, 2 and 3 in turn. A conversion does not ask whether they are true. */
 static inline void old_layout(uint8_t *blocks, size_t length) {
     for (size_t at = 0; at + BLOCK <= length; at += BLOCK) {

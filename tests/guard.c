@@ -8,7 +8,7 @@
 #include <unistd.h>
 
 /* A multiple of the page size of any machine that may emulate this one. */
-enum { PAGE = 65536, LONGEST = 16 * PAGE, MARGIN = 256, PARTIES = 6 };
+enum { PAGE = 65536, LONGEST = 16 * PAGE, MARGIN = 256, PARTIES = 6, RIGHTS = 4 };
 
 static const char *calling = "none";
 static char said[64];
@@ -80,9 +80,9 @@ static void check_margin(const arena *a) {
 
 static arena read_book, written_book, read_message, fields[3], written_text;
 
-/* ---- the desk: a sound book that grows by the messages it accepts */
+/* ---- the desk: a sound book that grows by the messages it accepts and the rights that are entered */
 
-static uint8_t desk[MOST_BLOCKS * BLOCK], message[(MOST_SERIES + 1) * BLOCK], content[LONGEST];
+static uint8_t desk[MOST_BLOCKS * BLOCK], message[(MOST_SERIES + 1) * BLOCK], right[BLOCK], content[LONGEST];
 static size_t desk_length, message_length;
 
 static bool is_closed(unsigned position) { return number(desk + 4, 2) + number(desk + 2, 2) > 15 * (position - 1) + 10080; }
@@ -97,6 +97,19 @@ static void add_series(const uint8_t *series) {
     if (message_length == sizeof message) return;
     memcpy(message + message_length, series, BLOCK);
     message_length += BLOCK;
+}
+
+/* A series whose id does not stand in the message yet. */
+static void add_new(const uint8_t *series) {
+    for (size_t at = BLOCK; at < message_length; at += BLOCK)
+        if (!memcmp(message + at + 8, series + 8, 16)) return;
+    add_series(series);
+}
+
+/* A new series has 0 at each closed position, and here and there at an open one. */
+static void clear_closed(uint8_t *series) {
+    for (unsigned p = 1; p <= desk[1]; p++)
+        if (is_closed(p) || one_in(200)) put(series + 104 + 4 * p, 4, 0);
 }
 
 /* The sender's stored series again, each changed at the last position or not, and one in many left out. */
@@ -118,17 +131,41 @@ static void repeat_series(const uint8_t *sender, unsigned version) {
 /* The trades of a party with the others, each bought or sold, as far as none is stored under that id. */
 static void new_series(unsigned party, unsigned version, unsigned many) {
     uint8_t x[BLOCK];
-    size_t before = message_length;
     for (unsigned other = 0; other < many; other++) {
         bool bought = one_in(2);
         unsigned k = 2 * other + bought, buyer = bought ? party : other, seller = bought ? other : party;
         if (other == party) continue;
         series_block(x, desk, k, version, buyer, seller, 1000 * (buyer + seller));
-        for (unsigned p = 1; p <= desk[1]; p++)
-            if (is_closed(p) || one_in(200)) put(x + 104 + 4 * p, 4, 0);
-        bool known = false;
-        for (size_t at = BLOCK; at < before; at += BLOCK) known |= !memcmp(message + at + 8, x + 8, 16);
-        if (!known) add_series(x);
+        clear_closed(x);
+        add_new(x);
+    }
+}
+
+/* One of the rights that a party holds at the desk, if it holds any. */
+static const uint8_t *held_right(const uint8_t *holder) {
+    const uint8_t *held = 0;
+    uint32_t many = 0;
+    for (size_t at = BLOCK; at < desk_length; at += BLOCK)
+        if (desk[at] == 4 && !memcmp(desk + at + 56, holder, 16) && one_in(++many)) held = desk + at;
+    return held;
+}
+
+/* Schedules of a party over the border, each without capacity or on a right, which it may not hold or whose limits may be lower. An id tells which of them it is:
+   two on one right have different parties. */
+static void new_schedules(unsigned party, unsigned version) {
+    uint8_t x[BLOCK];
+    for (unsigned many = 1 + below(3); many; many--) {
+        bool in = one_in(2), alone = one_in(2);
+        unsigned k = below(RIGHTS + 1);
+        const uint8_t *held = held_right(eic(party));
+        if (held && !one_in(4)) {
+            in = !memcmp(held + 24, desk + 24, 16);
+            k = held[5] - 1u;
+        }
+        external_block(x, desk, 1000 + 4 * k + 2 * alone + in, version, party, alone ? party : PARTIES, in, below(1200));
+        if (k) name_right(x, desk, k, in);
+        clear_closed(x);
+        add_new(x);
     }
 }
 
@@ -140,6 +177,7 @@ static void next_message(void) {
     message_length = BLOCK;
     if (stored) repeat_series(stored, version);
     if (!stored || one_in(4)) new_series(party, version, one_in(40) ? 110 : 1 + below(PARTIES));
+    if (one_in(4)) new_schedules(party, version);
     if (message_length == BLOCK) new_series(party, version, PARTIES);
     sender_block(message, desk, party, version, (unsigned)(message_length / BLOCK - 1));
     for (size_t at = 0; at < message_length; at += BLOCK) tetherbay_seal(message + at, BLOCK);
@@ -190,6 +228,16 @@ static const uint8_t *lend_message(void) {
     if (one_in(8) || !message_length) next_message();
     lent_message_length = shape(message, message_length);
     return lend(&read_message, content, lent_message_length);
+}
+
+/* Into arena 0: a right of a party, which the desk may hold with these limits or others; altered now and then, or of a length beside a block's. */
+static const uint8_t *lend_right(void) {
+    static const size_t edges[] = {0, 511, 512, 513};
+    right_block(right, desk, 1 + below(RIGHTS), below(PARTIES), one_in(2), 1000 * (1 + below(3)), below(3));
+    tetherbay_seal(right, BLOCK);
+    size_t length = shape(right, BLOCK);
+    if (length > PAGE - MARGIN || one_in(8)) length = edges[below(4)];
+    return lend(&fields[0], content, length);
 }
 
 /* Into arena f: a party's EIC, a field of a slot of the desk, or random bytes. */
@@ -248,9 +296,9 @@ static void call_quantity_print(void) {
     tetherbay_quantity_print(one_in(2) ? below(10000100) : below(5000), text, length);
 }
 
-static void call_reason_code(void) { tetherbay_reason_code(one_in(4) ? (uint32_t)seed : below(40)); }
+static void call_reason_code(void) { tetherbay_reason_code(one_in(4) ? (uint32_t)seed : below(48)); }
 
-static void call_reply(void) { tetherbay_reply(one_in(4) ? (uint32_t)seed : below(40)); }
+static void call_reply(void) { tetherbay_reply(one_in(4) ? (uint32_t)seed : below(48)); }
 
 static void call_sound(void) {
     const uint8_t *b = lend_book(&read_book);
@@ -306,12 +354,54 @@ static void call_clock(void) {
     tetherbay_clock(b, lent_length, (uint16_t)(one_in(4) ? below(65536) : below(12000)));
 }
 
-static uint32_t verdicts[18];
-
 static size_t used_slots(const uint8_t *b) {
     size_t slot = 1;
     while (BLOCK * slot < lent_length && b[BLOCK * slot]) slot++;
     return slot - 1;
+}
+
+static uint32_t enterings[41];
+
+/* What stands in the last used slot is the right as it is lent. Some of those that the desk itself takes stay there from then on. */
+static void call_enter_right(void) {
+    const uint8_t *r = lend_right();
+    uint8_t *b = lend_book(&written_book);
+    bool own = lent_length == desk_length && !memcmp(b, desk, desk_length);
+    uint32_t number = tetherbay_enter_right(b, lent_length, r, fields[0].length);
+    enterings[number]++;
+    if (number) return;
+    if (memcmp(b + BLOCK * used_slots(b), r, BLOCK)) fail("a right that is not as it was lent");
+    if (own && one_in(3)) memcpy(desk, b, desk_length);
+}
+
+/* A right of each length about a block's, up to either edge, for a book with one free slot. */
+static void enter_each_length(void) {
+    static const size_t lengths[] = {0, 511, 512, 513};
+    calling = "tetherbay_enter_right";
+    used = 0;
+    make_book(20, SLOTS - 1);
+    for (size_t turn = 0; turn < 64; turn++) {
+        size_t length = lengths[turn % 4];
+        memset(content, 0, 2 * BLOCK);
+        right_block(content, book, 1, 1, true, 1000, 1);
+        tetherbay_seal(content, BLOCK);
+        const uint8_t *r = lend(&fields[0], content, length);
+        uint8_t *b = lend(&written_book, book, sizeof book), *last = b + BLOCK * SLOTS;
+        uint32_t number = tetherbay_enter_right(b, sizeof book, r, length);
+        if (number != (length == BLOCK ? 0 : 40)) fail("a right of another length taken, or one of a block's refused");
+        if (memcmp(b, book, BLOCK * SLOTS)) fail("a slot altered that was used");
+        if (memcmp(last, number ? book + BLOCK * SLOTS : r, BLOCK)) fail("a free slot that is not as it should be");
+        check_margin(&written_book);
+    }
+}
+
+static uint32_t verdicts[20], on_rights;
+
+/* Whether a series of the message is sent on a right. */
+static bool has_capacity(void) {
+    for (size_t at = BLOCK; at < message_length; at += BLOCK)
+        if (message[at + 4] == 3) return true;
+    return false;
 }
 
 /* What an acceptance of the desk itself leaves is the desk from then on. */
@@ -324,6 +414,7 @@ static void call_submit(void) {
     if (a.looked != (a.verdict.number ? 0 : used_slots(b))) fail("looks other than one at each used slot, or on a refusal");
     if (a.verdict.number || !own) return;
     memcpy(desk, b, desk_length);
+    on_rights += has_capacity();
     next_message();
 }
 
@@ -386,6 +477,7 @@ static const struct {
     {"tetherbay_open_by", call_open_by},
     {"tetherbay_convert", call_convert},
     {"tetherbay_clock", call_clock},
+    {"tetherbay_enter_right", call_enter_right},
     {"tetherbay_submit", call_submit},
     {"tetherbay_judge", call_judge},
     {"tetherbay_mark", call_mark},
@@ -421,6 +513,7 @@ int main(int argc, char **argv) {
     lend(&written_book, content, 0);
     lend(&written_text, content, 0);
     convert_full_books();
+    enter_each_length();
     for (uint64_t round = 0; made < least; round++) {
         if (round % 60 == 0) open_desk();
         if (round % 60 == 40) tetherbay_clock(desk, desk_length, (uint16_t)(10080 + below(1500)));
@@ -433,14 +526,18 @@ int main(int argc, char **argv) {
         calling = "the desk itself";
         if (!tetherbay_sound(desk, desk_length)) fail("a book that is not sound");
     }
-    printf("verdicts 0 to 17, how often:");
-    for (size_t v = 0; v < 18; v++) {
+    printf("verdicts 0 to 19, how often:");
+    for (size_t v = 0; v < 20; v++) {
         printf(" %u", verdicts[v]);
         calling = "the messages of this run";
         if (!verdicts[v] && made >= 100000) fail("a verdict that never came");
     }
     printf("\nconversions 0 and 1, how often: %u %u\n", conversions[0], conversions[1]);
     if ((!conversions[0] || !conversions[1]) && made >= 100000) fail("a conversion that never came");
+    printf("rights 0, 1, 17 and 40, how often: %u %u %u %u\n", enterings[0], enterings[1], enterings[17], enterings[40]);
+    printf("messages accepted with schedules on rights: %u\n", on_rights);
+    bool all = enterings[0] && enterings[1] && enterings[17] && enterings[40] && on_rights;
+    if (!all && made >= 100000) fail("an answer to a right, or a schedule on one, that never came");
     printf("%llu calls of %zu exports, no fault\n", (unsigned long long)made, exports);
     return 0;
 }

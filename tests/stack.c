@@ -50,7 +50,7 @@ static size_t used_by(void (*call)(void)) {
 
 /* ---- the calls, on a full book and the longest message; the listing's book has 64 blocks */
 
-static uint8_t message[(MOST_SERIES + 1) * BLOCK], small[SMALL], text[6000], party[16], other[16], id[16] = "SERIES-0000";
+static uint8_t message[(MOST_SERIES + 1) * BLOCK], right[BLOCK], small[SMALL], text[6000], party[16], other[16], id[16] = "SERIES-0000";
 static size_t message_length;
 static uint64_t answer;
 
@@ -70,6 +70,7 @@ static void call_reply(void) { answer = tetherbay_reply(16).kind; }
 static void call_sound(void) { answer = tetherbay_sound(book, sizeof book); }
 static void call_convert(void) { answer = tetherbay_convert(book, sizeof book); }
 static void call_clock(void) { answer = tetherbay_clock(book, sizeof book, 10080).number; }
+static void call_enter_right(void) { answer = tetherbay_enter_right(book, sizeof book, right, BLOCK); }
 static void call_judge(void) { answer = tetherbay_judge(book, sizeof book, message, message_length).number; }
 static void call_submit(void) { answer = tetherbay_submit(book, sizeof book, message, message_length).verdict.number; }
 static void call_mark(void) { answer = tetherbay_mark(book, sizeof book, party, 16, id, 16).number; }
@@ -105,6 +106,7 @@ static struct {
     {"tetherbay_final", call_final, 0},
     {"tetherbay_plain_run", call_plain_run, 0},
     {"tetherbay_judge", call_judge, 0},
+    {"tetherbay_enter_right", call_enter_right, 0},
     {"tetherbay_submit", call_submit, 0},
     {"tetherbay_convert", call_convert, 0},
     {"tetherbay_clock", call_clock, 0},
@@ -114,8 +116,14 @@ static struct {
 
 enum { CALLS = sizeof calls / sizeof *calls };
 
-/* A message of the party whose number is above those in the book. The first series are sold to the book's last senders, which keep the other side; the rest is
-   bought. */
+/* A right of the party whose number is above those in the book. */
+static void make_right(unsigned holder) {
+    right_block(right, book, 0, holder, true, 1000, 0);
+    tetherbay_seal(right, BLOCK);
+}
+
+/* A message of that party. The first series are sold to the book's last senders, which keep the other side; the rest is bought, but for the last one, which comes
+   over the border on the right. */
 static void make_message(unsigned sender, unsigned series, unsigned version) {
     message_length = BLOCK * (size_t)(series + 1);
     sender_block(message, book, sender, version, series);
@@ -123,6 +131,7 @@ static void make_message(unsigned sender, unsigned series, unsigned version) {
         bool sold = k < 20 && k < sender;
         series_block(message + BLOCK * (k + 1), book, k, version, sold ? sender - 1 - k : sender, sold ? sender : sender + k + 1, version);
     }
+    name_right(message + BLOCK * series, book, 0, true);
     for (size_t at = 0; at < message_length; at += BLOCK) tetherbay_seal(message + at, BLOCK);
 }
 
@@ -142,20 +151,27 @@ static void make_all(size_t own) {
     }
 }
 
-/* A book of so many senders; the message is new, with its 200 series, where there is room for it, and then changes all of them. */
+/* A call that is made before the others, and how it must be answered. */
+static void make_first(const char *name, void (*call)(void), uint32_t number, size_t own) {
+    calling = name;
+    size_t used = used_by(call) - own;
+    answered(number);
+    for (size_t c = 0; c < CALLS; c++)
+        if (calls[c].call == call && used > calls[c].used) calls[c].used = used;
+}
+
+/* A book of so many senders, into which the right is entered; the message is new, with its 200 series, where there is room for it, and then changes all of them. */
 static void on_a_book(unsigned senders, bool room, size_t own) {
     used = 0;
-    make_book(senders, room ? SLOTS - MOST_SERIES - 1 : SLOTS);
+    make_book(senders, (room ? SLOTS - MOST_SERIES - 1 : SLOTS) - 1);
+    make_right(senders);
+    make_first("tetherbay_enter_right", call_enter_right, 0, own);
     make_message(senders, MOST_SERIES, 1);
-    calling = "tetherbay_submit";
-    size_t deepest = used_by(call_submit) - own;
-    answered(room ? 0 : 17);
+    make_first("tetherbay_submit", call_submit, room ? 0 : 17, own);
     make_message(senders, MOST_SERIES, room ? 2 : 1);
     memcpy(party, eic(room ? senders : 0), 16);
     memcpy(other, eic(1), 16);
     make_all(own);
-    for (size_t c = 0; c < CALLS; c++)
-        if (calls[c].call == call_submit && deepest > calls[c].used) calls[c].used = deepest;
 }
 
 static void make_small_book(void) {
@@ -163,7 +179,9 @@ static void make_small_book(void) {
     memcpy(other, eic(9001), 16);
     if (tetherbay_open(small, sizeof small, N, 45, day(), 8, party, 16, other, 16).number) exit(5);
     memcpy(book, small, BLOCK);
-    make_message(0, SMALL / BLOCK - 2, 1);
+    make_right(0);
+    if (tetherbay_enter_right(small, sizeof small, right, BLOCK)) exit(5);
+    make_message(0, SMALL / BLOCK - 3, 1);
     if (tetherbay_submit(small, sizeof small, message, message_length).verdict.number) exit(5);
 }
 

@@ -3,7 +3,8 @@
 
 use crate::random::Random;
 
-/// The seed of the one order in which cards are dealt that are not shuffled each time.
+/// The seed of the one order in which cards are dealt that are not shuffled each time. It was chosen by trying values until
+/// the six fixed seeds showed everything twenty times; most values leave a few rows of the histogram below that.
 const ONE_ORDER: u64 = 45;
 
 pub struct Deck<T> {

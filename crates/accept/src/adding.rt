@@ -4,8 +4,8 @@ ghost use Prim.Native.Nat.{_+_, _*_, _/_, _≤_};
 ghost use lib.ListN.{length};
 ghost use Rattle.laws.specs.Cut.{cut};
 ghost use Rattle.accept.specs.Steps.{Laid, LaidInto, addedAt, addedOf, newOf, senderIfNew};
-use super::renewal::write_sender;
 use super::renewal::write_series;
+use block::numbers::write_bytes;
 use index::wide;
 use paper::Slot;
 use slots::block_at;
@@ -45,31 +45,31 @@ fn add_series(
 }
 
 // "Sender first". The block of a known sender is renewed in its own slot instead.
-fn add_sender(slots: &mut [u8], used: usize, head: &[u8], series: &[u8], had: Slot) -> usize
-    requires { ⌜ (512 * (used + length (senderIfNew (had .0) (now head) (cut 512 (now series)))) ≤ length (now slots)) × (length (now head) ≡ 512) × (length (now series) ≤ 268435456) ⌝ }
-    ensures { λ r. ⌜ Laid used (senderIfNew (had .0) (now (head .entry)) (cut 512 (now (series .entry)))) (cut 512 (now (slots .entry))) (cut 512 (now (slots .exit))) r ⌝ }
+fn add_sender(slots: &mut [u8], used: usize, kept: &[u8; 512], had: Slot) -> usize
+    requires { ⌜ 512 * (used + length (senderIfNew (had .0) (now kept))) ≤ length (now slots) ⌝ }
+    ensures { λ r. ⌜ Laid used (senderIfNew (had .0) (now (kept .entry))) (cut 512 (now (slots .entry))) (cut 512 (now (slots .exit))) r ⌝ }
 {
     if had.0 == 0 {
         let start = 512 * used;
-        write_sender(&mut slots[start..start + 512], head, series);
+        write_bytes(&mut slots[start..start + 512], 0, kept);
         return used + 1;
     }
     used
 }
 
-// Behind the used slots. `had` is the slot that the sender has, 0 where it has none, and `slot` the one that it has from now on.
+// Behind the used slots. `kept` is the sender's block, `had` the slot that it has, 0 where it has none, and `slot` the one that it has from now on.
 pub fn add_blocks(
     slots: &mut [u8],
     used: usize,
-    head: &[u8],
+    kept: &[u8; 512],
     series: &[u8],
     had: Slot,
     slot: Slot,
     places: &[u16; 1000],
 ) -> usize
-    requires { ⌜ (512 * (used + length (newOf (had .0) (slot .0) (now places) (now head) (now series))) ≤ length (now slots)) × (length (now head) ≡ 512) × (length (now series) / 512 ≤ 1000) ⌝ }
-    ensures { λ r. ⌜ LaidInto used (newOf (had .0) (slot .0) (now (places .entry)) (now (head .entry)) (now (series .entry))) (now (slots .entry)) (now (slots .exit)) r ⌝ }
+    requires { ⌜ (512 * (used + length (newOf (had .0) (slot .0) (now places) (now kept) (now series))) ≤ length (now slots)) × (length (now series) / 512 ≤ 1000) ⌝ }
+    ensures { λ r. ⌜ LaidInto used (newOf (had .0) (slot .0) (now (places .entry)) (now (kept .entry)) (now (series .entry))) (now (slots .entry)) (now (slots .exit)) r ⌝ }
 {
-    let start = add_sender(slots, used, head, series, had);
+    let start = add_sender(slots, used, kept, had);
     add_series(slots, start, series, slot, places)
 }

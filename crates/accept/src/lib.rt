@@ -7,7 +7,8 @@ ghost use lib.ListN.{length};
 ghost use Rattle.laws.specs.Tests.{is};
 ghost use Rattle.laws.specs.Lists.{until};
 ghost use Rattle.laws.specs.Cut.{cut};
-ghost use Rattle.paper.specs.Book.{isFree, used};
+ghost use Rattle.paper.specs.Layout.{area};
+ghost use Rattle.paper.specs.Book.{isFree, dayBlock, used};
 ghost use Rattle.paper.specs.Message.{headOf, seriesOf};
 ghost use Rattle.paper.specs.Acceptance.{placed, accepted};
 ghost use Rattle.paper.specs.Looks.{visited};
@@ -15,9 +16,12 @@ ghost use Rattle.index.specs.Handed.{Handed};
 ghost use Rattle.accept.specs.Fits.{Placing, Fits};
 ghost use Rattle.accept.specs.Steps.{acceptedOver};
 use adding::add_blocks;
+use block::numbers::write_bytes;
+use layout::area;
 use layout::n_of;
 use paper::Slot;
 use remarking::remark_all;
+use renewal::kept_sender;
 use renewal::renew_all;
 
 pub mod adding;
@@ -40,27 +44,39 @@ fn slot_for(had: usize, used: usize) -> usize
     if had == 0 { used + 1 } else { had }
 }
 
-// Over a book's slots. `places` says where the series of the message stand among the used, `numbers` which series of the message has the pair of
-// each used block.
+// Over a book's slots; `ours` is the day block's area. `places` says where the series of the message stand among the used, `numbers` which series of the message
+// has the key of each used block.
 fn accept_into(
     slots: &mut [u8],
+    ours: &[u8],
     head: &[u8],
     series: &[u8],
     standing: Standing,
     places: &[u16; 1000],
     numbers: &[u16; 1000],
 ) -> usize
-    requires { ⌜ Placing (standing .n) (length (cut 512 (now slots))) (until isFree (cut 512 (now slots))) (now head) (cut 512 (now series)) × Handed (until isFree (cut 512 (now slots))) (now head) (cut 512 (now series)) (standing .used) (standing .slot) (now places) (now numbers) ⌝ }
-    ensures { λ r. ⌜ (cut 512 (now (slots .exit)) ≡ acceptedOver (standing .n) (now (head .entry)) (cut 512 (now (series .entry))) (cut 512 (now (slots .entry)))) × (r ≡ length (visited (placed (until isFree (cut 512 (now (slots .entry)))) (now (head .entry)) (cut 512 (now (series .entry)))))) ⌝ }
+    requires { ⌜ Placing (standing .n) (now ours) (length (cut 512 (now slots))) (until isFree (cut 512 (now slots))) (now head) (cut 512 (now series)) × Handed (until isFree (cut 512 (now slots))) (now head) (cut 512 (now series)) (standing .used) (standing .slot) (now places) (now numbers) ⌝ }
+    ensures { λ r. ⌜ (cut 512 (now (slots .exit)) ≡ acceptedOver (standing .n) (now (ours .entry)) (now (head .entry)) (cut 512 (now (series .entry))) (cut 512 (now (slots .entry)))) × (r ≡ length (visited (placed (now (ours .entry)) (until isFree (cut 512 (now (slots .entry)))) (now (head .entry)) (cut 512 (now (series .entry)))))) ⌝ }
 {
     let had = standing.slot;
     let used = standing.used;
     let used_end = 512 * used;
     let slot = slot_for(had, used);
-    let next = add_blocks(slots, used, head, series, Slot(had), Slot(slot), places);
-    renew_all(&mut slots[..used_end], head, series, Slot(slot), numbers);
+    let kept = kept_sender(ours, head, series);
+    let next = add_blocks(slots, used, &kept, series, Slot(had), Slot(slot), places);
+    renew_all(&mut slots[..used_end], &kept, series, Slot(slot), numbers);
     let end = 512 * next;
     remark_all(&mut slots[..end], standing.n, series, Slot(slot))
+}
+
+// The area out of the day block, which cannot be read while the slots behind it are lent to be written.
+fn area_of(book: &[u8]) -> [u8; 16]
+    requires { ⌜ 512 ≤ length (now book) ⌝ }
+    ensures { λ r. ⌜ r ≡ area (dayBlock (now (book .entry))) ⌝ }
+{
+    let mut ours = [0u8; 16];
+    write_bytes(&mut ours, 0, area(book));
+    ours
 }
 
 // Called where the verdict is 0, which gives `Fits`: so nothing is written before rules 16 and 17 are passed. What the judgement has found is handed
@@ -74,15 +90,17 @@ pub fn accept(
     numbers: &[u16; 1000],
 ) -> usize
     requires { ⌜ Fits (now book) (now message) × Handed (used (now book)) (headOf (now message)) (seriesOf (now message)) «used_count» (slot .0) (now places) (now numbers) ⌝ }
-    ensures { λ r. ⌜ (now (book .exit) ≡ accepted (now (book .entry)) (now (message .entry))) × (r ≡ length (visited (placed (used (now (book .entry))) (headOf (now (message .entry))) (seriesOf (now (message .entry)))))) ⌝ }
+    ensures { λ r. ⌜ (now (book .exit) ≡ accepted (now (book .entry)) (now (message .entry))) × (r ≡ length (visited (placed (area (dayBlock (now (book .entry)))) (used (now (book .entry))) (headOf (now (message .entry))) (seriesOf (now (message .entry)))))) ⌝ }
 {
     let standing = Standing {
         n: n_of(book) as usize,
         used: used_count,
         slot: slot.0,
     };
+    let ours = area_of(book);
     accept_into(
         &mut book[512..],
+        &ours,
         &message[..512],
         &message[512..],
         standing,

@@ -18,18 +18,21 @@ use paper::Slot;
 use slots::block_at;
 use slots::is_series;
 
-// `number` is that of the message's series with the block's pair.
-fn is_touched(y: &[u8], number: usize) -> bool
-    ensures { λ r. ⌜ r ≡ touchedBy number (now (y .entry)) ⌝ }
+// `number` is that of the message's trade between the block's parties; every series of the sender is touched, with a number or without.
+fn is_touched(y: &[u8], own: Slot, number: usize) -> bool
+    ensures { λ r. ⌜ r ≡ touchedBy (own .0) number (now (y .entry)) ⌝ }
 {
-    is_series(y) & (number != 0)
+    is_series(y) & ((senders_slot(y).0 == own.0) | (number != 0))
 }
 
-// The counterpart found for a series of the sender; for the other side of a trade the sender's own series, which need not be sought.
+// The counterpart found for a trade of the sender; for the other side of a trade the sender's own, which need not be sought. An external schedule has none.
 fn partner_of(y: &[u8], own: Slot, number: usize, partners: &[u16; 200], homes: &[u16; 200]) -> Slot
-    requires { ⌜ (0 < number) × (number ≤ 200) ⌝ }
+    requires { ⌜ number ≤ 200 ⌝ }
     ensures { λ r. ⌜ r .0 ≡ partnerBy (own .0) number (now (partners .entry)) (now (homes .entry)) (now (y .entry)) ⌝ }
 {
+    if number == 0 {
+        return Slot(0);
+    }
     if senders_slot(y).0 == own.0 {
         return Slot(wide(partners[number - 1]));
     }
@@ -46,7 +49,7 @@ fn remark(us: &mut [u8], i: usize, n: usize, partner: Slot)
     write_mark(&mut us[start..start + 512], &m);
 }
 
-// A mark is worked out from kind, sender's slot, pair and quantities, which no mark changes: so it does not matter which is put right first.
+// A mark is worked out from kind, sender's slot, trade and quantities, which no mark changes: so it does not matter which is put right first.
 fn remark_each(
     us: &mut [u8],
     n: usize,
@@ -63,7 +66,7 @@ fn remark_each(
     let mut i = 0;
     while i < blocks {
         let number = wide(numbers[i]);
-        if is_touched(block_at(us, i), number) {
+        if is_touched(block_at(us, i), Slot(own), number) {
             let partner = partner_of(block_at(us, i), Slot(own), number, partners, homes);
             remark(us, i, n, partner);
         }

@@ -55,7 +55,8 @@ replied number = replyTo number .kind ∷ replyTo number .status ∷ replyTo num
 unfoldable pub ofCodes : List Case
 ofCodes =
     map reasonCode (30 ∷ 31 ∷ []) gives (42 ∷ 46 ∷ [])
-    ∷ map reasonCode (18 ∷ 20 ∷ 21 ∷ 22 ∷ 23 ∷ 24 ∷ 25 ∷ 26 ∷ 32 ∷ []) gives replicate 9 0
+    ∷ map reasonCode (18 ∷ 19 ∷ []) gives (59 ∷ 59 ∷ [])
+    ∷ map reasonCode (20 ∷ 21 ∷ 22 ∷ 23 ∷ 24 ∷ 25 ∷ 26 ∷ 32 ∷ 40 ∷ []) gives replicate 9 0
     ∷ map statusCode (0 ∷ 1 ∷ 2 ∷ 16 ∷ 17 ∷ []) gives (1 ∷ 0 ∷ 0 ∷ 2 ∷ 0 ∷ [])
     ∷ replied 0 gives (acknowledgement ∷ 1 ∷ 1 ∷ [])
     ∷ replied 1 gives (deskNotice ∷ 0 ∷ 0 ∷ [])
@@ -63,6 +64,8 @@ ofCodes =
     ∷ replied 3 gives (acknowledgement ∷ 2 ∷ 53 ∷ [])
     ∷ replied 16 gives (acknowledgement ∷ 2 ∷ 52 ∷ [])
     ∷ replied 17 gives (deskNotice ∷ 0 ∷ 0 ∷ [])
+    ∷ replied 19 gives (acknowledgement ∷ 2 ∷ 59 ∷ [])
+    ∷ replied 40 gives (deskNotice ∷ 0 ∷ 0 ∷ [])
     ∷ map stateCode (1 ∷ 2 ∷ 3 ∷ []) gives (28 ∷ 0 ∷ 9 ∷ [])
     -- by count and partner: alone, agree, differ; a count without a partner, which no true mark has
     ∷ (markCode 0 0 ∷ markCode 0 4 ∷ markCode 1 4 ∷ markCode 96 4 ∷ markCode 1 0 ∷ []) gives (28 ∷ 0 ∷ 9 ∷ 9 ∷ 9 ∷ [])

@@ -62,7 +62,8 @@ ofForm book =
     ∷ submission book (firstBlock ++ series "FPL01" 1 stranger seller (steady 0)) gives broken 8 1 0 22
     ∷ submission book (firstBlock ++ withInArea stranger quiet) gives broken 9 1 0 23
     ∷ submission book (firstBlock ++ withOutArea nobody quiet) gives broken 9 1 0 23
-    ∷ submission book (firstBlock ++ withBusinessType 3 quiet) gives broken 10 1 0 62
+    ∷ submission book (firstBlock ++ withBusinessType 3 quiet) gives broken 9 1 0 23
+    ∷ submission book (firstBlock ++ withBusinessType 5 quiet) gives broken 10 1 0 62
     ∷ submission book (firstBlock ++ withContractType 1 quiet) gives broken 10 1 0 62
     ∷ submission book (firstBlock ++ withAgreement (id "A") quiet) gives broken 10 1 0 62
     ∷ []
@@ -82,7 +83,7 @@ ofValues book =
     ∷ submission book (firstBlock ++ purchase 1 (butAt 5 5 (steady 0))) gives broken 17 0 0 0
     ∷ submission book (firstBlock ++ purchase 0 (steady 0)) gives broken 15 1 0 50
     ∷ submission book (head buyer 1 2 ++ purchase 2 (steady 0) ++ withId (id "fpl") quiet) gives broken 15 1 0 50
-    ∷ submission book (head buyer 1 2 ++ quiet ++ withBusinessType 3 (series "FPL02" 1 seller buyer (steady 0))) gives broken 10 2 0 62
+    ∷ submission book (head buyer 1 2 ++ quiet ++ withBusinessType 5 (series "FPL02" 1 seller buyer (steady 0))) gives broken 10 2 0 62
     ∷ []
 
 -- ---- a known sender

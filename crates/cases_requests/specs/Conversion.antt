@@ -1,5 +1,5 @@
 -- C-16, the conversion of an old book: of a true one, of a false one, and of what is no old book.
-use Rattle.laws.specs.Base.{_≡_, refl, List, [], _∷_, _++_, map, ℕ, _+_, _*_, length, take, drop, replicate}
+use Rattle.laws.specs.Base.{_≡_, refl, some, List, [], _∷_, _++_, map, ℕ, _+_, _*_, length, take, drop, replicate}
 use Rattle.laws.specs.Cut.{join}
 use Rattle.paper.specs.Layout.{Bytes}
 use Rattle.paper.specs.Book.{used, numbered}
@@ -60,8 +60,8 @@ unfoldable pub ofList : Bytes → List Case
 ofList book =
     once (λ b. join (listAfter b)) (marked (3 ∷ []) (3 ∷ []) book) gives drop 512 book
     ∷ map length (keptMessages (used book)) gives (1024 ∷ 1024 ∷ [])
-    ∷ plainMark (keptMessages (used book)) seller (buyer ++ seller) 4 gives (1 ∷ 2 ∷ 4 ∷ 0 ∷ [])
-    ∷ plainMark (keptMessages (used book)) buyer (buyer ++ seller) 2 gives (1 ∷ 2 ∷ 2 ∷ 0 ∷ [])
+    ∷ plainMark (keptMessages (used book)) seller (some (buyer ++ seller)) 4 gives (1 ∷ 2 ∷ 4 ∷ 0 ∷ [])
+    ∷ plainMark (keptMessages (used book)) buyer (some (buyer ++ seller)) 2 gives (1 ∷ 2 ∷ 2 ∷ 0 ∷ [])
     -- a refused one leaves the list
     ∷ join (listAfter (replicate 1024 0)) gives (7 ∷ [])
     ∷ []

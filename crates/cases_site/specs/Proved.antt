@@ -10,12 +10,12 @@ use Rattle.cases.specs.Opened.{paper}
 use Rattle.cases.specs.Examples.{examples}
 use Rattle.cases_text.specs.Text.{textForm}
 use Rattle.site_leaves.specs.Leaves.{blockWith}
-use Rattle.cases_site.specs.Site.{opening, minuteIn, laidFirst, messageOf, sellersLines, held, sellersText, came, bookAfter, stated, rowRight, rowBook, rowsFrom, tableRun, shown, rightWithPage}
-use Rattle.cases_site.specs.Tables.{rows, eics, quantities, checks, leads, versions, closed, listed, page}
+use Rattle.cases_site.specs.Site.{opening, minuteIn, laidFirst, messageOf, rightOf, sellersLines, held, sellersText, came, bookAfter, stated, rowRight, rowBook, rowsFrom, tableRun, shown, rightWithPage}
+use Rattle.cases_site.specs.Tables.{rows, eics, quantities, checks, leads, versions, closed, rights, listed, page}
 
 -- to name it on an `unfolding` line opens the check on site
 unfoldable pub site : ℕ
-unfolding within numberRead minuteAfter minuteBefore minuteRead lines firstPiece pastPiece pastPieces pieceNumbered lineNumbered commands commandFrom commandNumber wordValue byteValue opening minuteIn blockWith laidFirst messageOf sellersLines held sellersText came bookAfter stated rowRight rowBook rows rowsFrom tableRun textLength textInto shown rightWithPage
+unfolding within numberRead minuteAfter minuteBefore minuteRead lines firstPiece pastPiece pastPieces pieceNumbered lineNumbered commands commandFrom commandNumber wordValue byteValue opening minuteIn blockWith laidFirst messageOf rightOf sellersLines held sellersText came bookAfter stated rowRight rowBook rows rowsFrom tableRun textLength textInto shown rightWithPage
 site = 0
 
 -- what asks no book leaves it as it was
@@ -42,6 +42,10 @@ versions-right = refl
 pub closed-right : (tableRun (replicate 2048 0) closed) .0 ≡ true
 unfolding paper examples textForm site closed
 closed-right = refl
+
+pub rights-right : (tableRun (replicate 2560 0) rights) .0 ≡ true
+unfolding paper examples textForm site rights
+rights-right = refl
 
 pub listed-right : rightWithPage page (tableRun (replicate 2560 0) listed) ≡ true
 unfolding paper examples textForm site listed page

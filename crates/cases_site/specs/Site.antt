@@ -14,13 +14,14 @@ use Rattle.paper.specs.Readings.{acceptedBlock}
 use Rattle.paper.specs.Rules.{verdict}
 use Rattle.paper.specs.Acceptance.{submitted}
 use Rattle.paper.specs.Conversion.{conversionNumber, converted}
+use Rattle.paper.specs.Rights.{enterNumber, entered}
 use Rattle.paper.specs.Listing.{text, listing}
 use Rattle.desk_text.specs.Put.{within}
 use Rattle.desk_text.specs.Numbers.{numberRead, minuteRead}
 use Rattle.desk_text.specs.Words.{firstPiece, pastPiece, pieceNumbered}
 use Rattle.desk_text.specs.Arguments.{commandNumber, wordValue}
 use Rattle.listing_text.specs.Text.{textLength, textInto}
-use Rattle.message_text.specs.MessageText.{messageText}
+use Rattle.message_text.specs.MessageText.{messageText, rightText}
 use Rattle.message_text.specs.declared.TextRead.{TextRead}
 use Rattle.cases.specs.Examples.{area, receiver, seller, buyer, day, id}
 use Rattle.site_leaves.specs.Leaves.{numberIn, blockWith}
@@ -41,6 +42,10 @@ laidFirst p = part 0 (p .0 .length) (p .1)
 -- the message that a text says, of two series at most
 unfoldable pub messageOf : (said : Bytes) → Bytes
 messageOf said = laidFirst (messageText said (replicate 1536 0))
+
+-- the right that a text says
+unfoldable pub rightOf : (said : Bytes) → Bytes
+rightOf said = laidFirst (rightText said (replicate 512 0))
 
 -- the seller's message under a head: its first series at 45,000 kW throughout and of version 1, then what else there is
 unfoldable pub sellersLines : Bytes
@@ -66,7 +71,8 @@ came book command argument more =
     (cond (is command 10) (eicNumber argument)
     (cond (is command 11) ((quantityRead argument) .number)
     (cond (is command 13) (conversionNumber book)
-    (checkOf (blockWith argument more))))))))))
+    (cond (is command 14) (enterNumber book (rightOf argument))
+    (checkOf (blockWith argument more)))))))))))
 
 unfoldable pub bookAfter : (book : Bytes) (command : ℕ) (argument more : Bytes) → Bytes
 bookAfter book command argument more =
@@ -74,7 +80,8 @@ bookAfter book command argument more =
     (cond (is command 2) (clockMoved book (minuteIn argument))
     (cond (is command 3) (submitted book (messageOf (sellersText argument more)))
     (cond (is command 9) (submitted book (messageOf argument))
-    (cond (is command 13) (converted book) book))))
+    (cond (is command 13) (converted book)
+    (cond (is command 14) (entered book (rightOf argument)) book)))))
 
 -- ---- a row: word, two arguments, the number expected, what is told
 

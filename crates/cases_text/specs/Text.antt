@@ -1,4 +1,4 @@
--- Document 01's listing example as text: the two messages that its parties file, and lines that are wrong.
+-- Document 01's listing example as text: the two messages that its parties file; C-14's message of three business types, and its right; and lines that are wrong.
 use Prim.Native.String.{String}
 use mathlib.Core.Path.{_≡_, refl}
 use mathlib.Core.Bool.{Bool, true}
@@ -10,15 +10,15 @@ use Rattle.paper.specs.Message.{messageRight}
 use Rattle.paper.specs.Listing.{text}
 use Rattle.cases.specs.Case.{Case, _gives_, wrong, once}
 use Rattle.cases.specs.Opened.{paper}
-use Rattle.cases.specs.Examples.{seller, buyer, head, steady, butAt, sale, purchase, examples}
+use Rattle.cases.specs.Examples.{area, seller, buyer, head, steady, butAt, sale, purchase, examples}
+use Rattle.cases_rights.specs.Blocks.{tirag, yearly, onDaily, netted, rights}
 use Rattle.message_words.specs.Words.{before, behind, linesUpTo, lines, word, value, skipped, numberOf, firstOf, lastOf}
 use Rattle.layout.specs.Written.{padded, withFront, withSeriesCount, withBusinessType, withField, withQuantity}
-use Rattle.layout.specs.Written.{withN as nWritten, withVersion as versionWritten}
-use Rattle.message_text.specs.MessageText.{withText, withVersion, withN, withArea, spread, withPositions, senderField, seriesField, inSender, inSeries, inBlock, fieldLaid, newBlock, newSeries, withBlock, counted, begun, withLine, started, withLines, unlessWrong, messageText}
+use Rattle.message_text.specs.MessageText.{senderWords, seriesWords, rightWords, between, fieldIn, fieldOf, withNumber, most, withText, spread, withPositions, inField, inBlock, fieldLaid, newBlock, withBlock, counted, seriesLaid, begun, withLine, withLines, textLaid, zerosFor, copied, messageText, rightText}
 
 -- to name it on an `unfolding` line opens the text form
 unfoldable pub textForm : ℕ
-unfolding before behind linesUpTo lines word value skipped numberOf firstOf lastOf padded withFront withSeriesCount withBusinessType withField withQuantity nWritten versionWritten withText withVersion withN withArea spread withPositions senderField seriesField inSender inSeries inBlock fieldLaid newBlock newSeries withBlock counted begun withLine started withLines unlessWrong messageText
+unfolding before behind linesUpTo lines word value skipped numberOf firstOf lastOf padded withFront withSeriesCount withBusinessType withField withQuantity senderWords seriesWords rightWords between fieldIn fieldOf withNumber most withText spread withPositions inField inBlock fieldLaid newBlock withBlock counted seriesLaid begun withLine withLines textLaid zerosFor copied messageText rightText
 textForm = 0
 
 -- the buffer after it, which held sevens
@@ -39,6 +39,22 @@ ofBuyer = "# as document 01's listing has it\nmessage PLAN\nversion 1\nsender 14
 pub buyerFiles : laidInto 1024 ofBuyer ≡ head buyer 1 1 ++ purchase 1 (butAt 2 44000 (steady 45000))
 unfolding paper examples textForm ofBuyer
 buyerFiles = refl
+
+-- C-14: a trade, a schedule on a right, one without capacity; the areas apart
+unfoldable pub ofThree : String
+ofThree = "message PLAN\nversion 1\nsender 14XBILANZGR-1--F\nreceiver 14XAT-APCS-----Q\nday 20190131\nn 96\nseries TS0001\narea 10YAT-APG------L\nin 14XBG-EMPFANG--0\nout 14XBILANZGR-1--F\n1-96 45\nseries FPL02\ntype 3\ncontract 1\nagreement CEPS-APG-D-14356\nin-area 10YAT-APG------L\nout-area 10YCZ-CEPS-----N\nin 14XBILANZGR-1--F\nout 13XBILANZGR-2--Q\n1-96 5\nseries FPL01\ntype 6\nin-area 10YAT-APG------L\nout-area 10YAT-TIRAG-N--C\nin 14XBILANZGR-1--F\nout 14XBILANZGR-1--F\n1-96 19\n"
+
+pub threeTypes : laidInto 2048 ofThree ≡ head seller 1 3 ++ sale 1 (steady 45000) ++ onDaily (steady 5000) ++ netted "FPL01" area tirag (steady 19000)
+unfolding paper examples rights textForm ofThree
+threeTypes = refl
+
+-- C-14's right
+unfoldable pub ofRight : String
+ofRight = "# a yearly one\nn 96\nholder 14XBILANZGR-1--F\nin-area 10YAT-APG------L\nout-area 10YCZ-CEPS-----N\ncontract 4\nagreement CEPS-APG-Y-2723\n1-96 15.000\n"
+
+pub rightEntered : (rightText (text ofRight) (replicate 522 7)) .1 ≡ yearly (steady 15000) ++ replicate 10 7
+unfolding paper examples rights textForm ofRight
+rightEntered = refl
 
 -- a wrong line leaves the buffer as it was
 pub nothingLaid : laidInto 1024 "n 96\nseries A\nversion 2\nnote X\n" ≡ replicate 1024 7
@@ -67,6 +83,7 @@ refusals =
     wrongLine 512 "n 96\nnote X\n" gives (2 ∷ [])
     ∷ wrongLine 512 "in X\n" gives (1 ∷ [])
     ∷ wrongLine 1024 "series A\nsender X\n" gives (2 ∷ [])
+    ∷ wrongLine 1024 "series A\nholder X\n" gives (2 ∷ [])
     ∷ wrongLine 512 "N 96\n" gives (1 ∷ [])
     -- a number
     ∷ wrongLine 512 "version\n" gives (1 ∷ [])
@@ -74,11 +91,16 @@ refusals =
     ∷ wrongLine 512 "version 10000\n" gives (1 ∷ [])
     ∷ wrongLine 512 "n 256\n" gives (1 ∷ [])
     ∷ wrongLine 512 "n 255\n" gives (0 ∷ [])
-    -- a text longer than its field
+    ∷ wrongLine 1024 "series A\ntype 256\n" gives (2 ∷ [])
+    ∷ wrongLine 1024 "series A\ntype 255\ncontract A01\n" gives (3 ∷ [])
+    -- a text longer than its field, or its two fields
     ∷ wrongLine 512 "day 201901311\n" gives (1 ∷ [])
     ∷ wrongLine 1024 "series A2345678901234567\n" gives (1 ∷ [])
     ∷ wrongLine 1024 "series A234567890123456\n" gives (0 ∷ [])
+    ∷ wrongLine 1024 "series A\narea A2345678901234567\n" gives (2 ∷ [])
+    ∷ wrongLine 1024 "series A\nagreement A234567890123456\nout-area A2345678901234567\n" gives (3 ∷ [])
     -- positions and quantities
+    ∷ wrongLine 1024 "1 1\nseries A\n" gives (1 ∷ [])
     ∷ wrongLine 1024 "series A\n0 1\n" gives (2 ∷ [])
     ∷ wrongLine 1024 "series A\n100 1\n101 1\n" gives (3 ∷ [])
     ∷ wrongLine 1024 "series A\n3-2 1\n" gives (2 ∷ [])
@@ -95,3 +117,24 @@ refusals =
 pub refusalsRight : wrong refusals ≡ []
 unfolding paper textForm refusals
 refusalsRight = refl
+
+-- the line of a right that is wrong
+abbrev pub wrongInRight : (room : ℕ) → String → List ℕ
+wrongInRight room t = (rightText (text t) (replicate room 7)) .0 .line ∷ []
+
+unfoldable pub refusedRights : List Case
+refusedRights =
+    -- a right has no series, no type of its own, no id and no version
+    wrongInRight 1024 "n 96\nseries A\n" gives (2 ∷ [])
+    ∷ wrongInRight 512 "type 3\n" gives (1 ∷ [])
+    ∷ wrongInRight 512 "version 1\n" gives (1 ∷ [])
+    ∷ wrongInRight 512 "in X\n" gives (1 ∷ [])
+    ∷ wrongInRight 512 "contract 255\ncontract 256\n" gives (2 ∷ [])
+    ∷ wrongInRight 512 "holder A2345678901234567\n" gives (1 ∷ [])
+    ∷ wrongInRight 512 "100 9999.999\n101 0\n" gives (2 ∷ [])
+    ∷ wrongInRight 511 "" gives (1 ∷ [])
+    ∷ []
+
+pub refusedRightsRight : wrong refusedRights ≡ []
+unfolding paper textForm refusedRights
+refusedRightsRight = refl

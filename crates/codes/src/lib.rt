@@ -7,7 +7,7 @@ use paper::Reply;
 use paper::Slot;
 
 // The one fixed table: at a number its code, 53 for A53, 0 where it has none. 0 is the acceptance; 1, 2, 17 and the numbers of the
-// other calls have none; 30 and 31 are the refusals of quantity text.
+// other calls have none; 18 and 19 are the refusals of a series on a right, 30 and 31 those of quantity text.
 const CODES: [u8; 33] = [
     1,
     0,
@@ -27,8 +27,8 @@ const CODES: [u8; 33] = [
     50,
     52,
     0,
-    0,
-    0,
+    59,
+    59,
     0,
     0,
     0,
@@ -77,11 +77,12 @@ fn status_code(number: u32, code: u8) -> u8
     2
 }
 
+// 40 is a refused right, of which no sender knows: the desk has it to itself, as 1 and 17.
 fn reply_kind(number: u32, code: u8) -> u8
     requires { ⌜ code ≡ reasonCode number ⌝ }
     ensures { λ r. ⌜ r ≡ replyKind number ⌝ }
 {
-    if (number == 1) | (number == 17) {
+    if (number == 1) | (number == 17) | (number == 40) {
         return 2;
     }
     if code == 0 {

@@ -9,9 +9,10 @@ ghost use Rattle.paper.specs.Finals.{final};
 ghost use Rattle.paper.specs.Readings.{acceptedBlock};
 ghost use Rattle.paper.specs.Rules.{verdict};
 ghost use Rattle.paper.specs.Acceptance.{submitted};
+ghost use Rattle.paper.specs.Rights.{enterNumber, entered};
 ghost use Rattle.desk_text.specs.Put.{Put};
 ghost use Rattle.cases.specs.Examples.{seller, buyer, id};
-ghost use Rattle.cases_site.specs.Site.{opening, minuteIn, messageOf, sellersLines, sellersText, shown};
+ghost use Rattle.cases_site.specs.Site.{opening, minuteIn, messageOf, rightOf, sellersLines, sellersText, shown};
 ghost use Rattle.cases_site.specs.Tables.{page};
 ghost use Rattle.site_leaves.specs.Leaves.{numberIn};
 use desk_text::arguments::word_value;
@@ -62,6 +63,15 @@ pub fn submitted(book: &mut [u8], text: &[u8]) -> u32
     let answer = submit::submit(book, part_of(&room, 0, k));
     let verdict = answer.verdict;
     verdict.number
+}
+
+// A right comes from its text too.
+pub fn entered(book: &mut [u8], text: &[u8]) -> u32
+    ensures { λ r. ⌜ (r ≡ enterNumber (now (book .entry)) (rightOf (now (text .entry)))) × (now (book .exit) ≡ entered (now (book .entry)) (rightOf (now (text .entry)))) ⌝ }
+{
+    let mut room = [0u8; 512];
+    let k = message_text::right_from_text(text, &mut room).length;
+    entering::enter_right(book, part_of(&room, 0, k))
 }
 
 fn sellers_text(text: &mut [u8], head: &[u8], more: &[u8]) -> usize

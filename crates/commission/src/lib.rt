@@ -104,6 +104,22 @@ fn closed_right() -> bool
     )
 }
 
+// A right is entered once; a series on it is judged by its limit (C-14).
+fn rights_right() -> bool
+    ensures { λ r. ⌜ r ≡ true ⌝ }
+{
+    let mut book = [0u8; 2560];
+    table::cases(
+        &mut book,
+        b"open|45||0|opening;\
+        right|n 96\ncontract 1\nin-area 10YAT-APG------L\nout-area 10YCZ-CEPS-----N\nholder 14XBILANZGR-1--F\nagreement CEPS-APG-D-14356\n1-96 5\n||0|a right of 5 MW;\
+        right|n 96\ncontract 1\nin-area 10YAT-APG------L\nout-area 10YCZ-CEPS-----N\nholder 14XBILANZGR-1--F\nagreement CEPS-APG-D-14356\n1-96 6\n||40|the same right with other limits;\
+        submit|message BILANZ\nversion 1|series FPL02\ntype 3\ncontract 1\nagreement CEPS-APG-D-14356\nin-area 10YAT-APG------L\nout-area 10YCZ-CEPS-----N\nin 14XBILANZGR-1--F\nout 14XBILANZGR-1--F\n1-96 5\n|0|a series on it at its limit;\
+        submit|message BILANZ\nversion 2|series FPL02\ntype 3\ncontract 1\nagreement CEPS-APG-D-14356\nin-area 10YAT-APG------L\nout-area 10YCZ-CEPS-----N\nin 14XBILANZGR-1--F\nout 14XBILANZGR-1--F\n1-96 5\n96 5.001\n|19|the same with 1 kW more at position 96;\
+        submit|message BILANZ\nversion 2|series FPL03\ntype 3\ncontract 4\nagreement CEPS-APG-D-14356\nin-area 10YAT-APG------L\nout-area 10YCZ-CEPS-----N\nin 14XBILANZGR-1--F\nout 14XBILANZGR-1--F\n1-96 1\n|18|a series on a right that the sender does not hold;",
+    )
+}
+
 // The buyer files the same as the seller but for 44,000 kW at position 2. A count of 0 is no state of the old layout; 1 passes as one, and the marks are written anew.
 fn listed_right() -> bool
     ensures { λ r. ⌜ r ≡ true ⌝ }
@@ -126,7 +142,11 @@ fn days_right() -> bool
     let a = leads_right();
     let b = versions_right();
     let c = closed_right();
-    line::both(line::both(a, b), line::both(c, listed_right()))
+    let d = rights_right();
+    line::both(
+        line::both(line::both(a, b), line::both(c, d)),
+        listed_right(),
+    )
 }
 
 // Every case is run, whatever an earlier one gave.

@@ -23,6 +23,7 @@ fn came(book: &mut [u8], command: usize, argument: &[u8], more: &[u8]) -> u32
         10 => eic::eic_number(argument) as u32,
         11 => quantity::quantity_read(argument).number,
         13 => conversion::convert(book),
+        14 => book::entered(book, argument),
         _ => leaves::check(argument, more),
     }
 }

@@ -4,11 +4,15 @@ ghost use mathlib.Core.List.{[]};
 ghost use Prim.Native.Nat.{_+_, _*_, _/_, _≤_};
 ghost use lib.ListN.{length, getD, set};
 ghost use Rattle.laws.specs.Cut.{cut};
+ghost use Rattle.paper.specs.Layout.{area};
+ghost use Rattle.paper.specs.Book.{dayBlock};
 ghost use Rattle.paper.specs.Conversion.{conversionNumber, convertedBlock, usedConverted, converted};
 ghost use Rattle.index.specs.Linked.{seriesIn, Links};
+use block::numbers::write_bytes;
 use index::link_series;
 use index::no_heads;
 use index::no_nexts;
+use layout::area;
 use layout::n_of;
 use layout::write::write_mark;
 use marks::mark_in;
@@ -20,14 +24,31 @@ use slots::is_series;
 use slots::used_count;
 use sound::old_sound;
 
-// A sender's nets or a series' mark, as the plain run would work them out.
-fn convert_block(us: &mut [u8], i: usize, n: usize, heads: &[u16; 1024], nexts: &[u16; 1000])
+// The area out of the day block, which cannot be read while the slots behind it are lent to be written.
+fn area_of(book: &[u8]) -> [u8; 16]
+    requires { ⌜ 512 ≤ length (now book) ⌝ }
+    ensures { λ r. ⌜ r ≡ area (dayBlock (now (book .entry))) ⌝ }
+{
+    let mut ours = [0u8; 16];
+    write_bytes(&mut ours, 0, area(book));
+    ours
+}
+
+// A sender's nets or a series' mark, as the plain run would work them out; `ours` is the day block's area. A right has neither.
+fn convert_block(
+    us: &mut [u8],
+    i: usize,
+    n: usize,
+    ours: &[u8],
+    heads: &[u16; 1024],
+    nexts: &[u16; 1000],
+)
     requires { ⌜ (512 * i + 512 ≤ length (now us)) × (n ≤ 100) × (length (now us) / 512 ≤ 1000) × Links seriesIn (cut 512 (now us)) 0 (now heads) (now nexts) ⌝ }
-    ensures { λ _. ⌜ cut 512 (now (us .exit)) ≡ set (cut 512 (now (us .entry))) i (convertedBlock n (cut 512 (now (us .entry))) (getD (cut 512 (now (us .entry))) i [])) ⌝ }
+    ensures { λ _. ⌜ cut 512 (now (us .exit)) ≡ set (cut 512 (now (us .entry))) i (convertedBlock n (now (ours .entry)) (cut 512 (now (us .entry))) (getD (cut 512 (now (us .entry))) i [])) ⌝ }
 {
     let start = 512 * i;
     if is_sender(block_at(us, i)) {
-        let sums = own_nets(us, block_at(us, i));
+        let sums = own_nets(ours, us, block_at(us, i));
         put_nets(&mut us[start..start + 512], &sums);
         return;
     }
@@ -39,27 +60,27 @@ fn convert_block(us: &mut [u8], i: usize, n: usize, heads: &[u16; 1024], nexts: 
 
 // Marks and nets are worked out from kinds, senders, sender's slots, pairs and the series' quantities, which none of them changes: so it does not
 // matter which is written first, and the links stay true.
-fn convert_each(us: &mut [u8], n: usize, heads: &[u16; 1024], nexts: &[u16; 1000])
+fn convert_each(us: &mut [u8], n: usize, ours: &[u8], heads: &[u16; 1024], nexts: &[u16; 1000])
     requires { ⌜ (n ≤ 100) × (length (now us) / 512 ≤ 1000) × Links seriesIn (cut 512 (now us)) 0 (now heads) (now nexts) ⌝ }
-    ensures { λ _. ⌜ cut 512 (now (us .exit)) ≡ usedConverted n (cut 512 (now (us .entry))) ⌝ }
+    ensures { λ _. ⌜ cut 512 (now (us .exit)) ≡ usedConverted n (now (ours .entry)) (cut 512 (now (us .entry))) ⌝ }
 {
     let blocks = us.len() / 512;
     let mut i = 0;
     while i < blocks {
-        convert_block(us, i, n, heads, nexts);
+        convert_block(us, i, n, ours, heads, nexts);
         i += 1;
     }
 }
 
 // The series are linked once, for all searches of counterparts.
-fn convert_used(us: &mut [u8], n: usize)
+fn convert_used(us: &mut [u8], n: usize, ours: &[u8])
     requires { ⌜ (n ≤ 100) × (length (now us) / 512 ≤ 1000) ⌝ }
-    ensures { λ _. ⌜ cut 512 (now (us .exit)) ≡ usedConverted n (cut 512 (now (us .entry))) ⌝ }
+    ensures { λ _. ⌜ cut 512 (now (us .exit)) ≡ usedConverted n (now (ours .entry)) (cut 512 (now (us .entry))) ⌝ }
 {
     let mut heads = no_heads();
     let mut nexts = no_nexts();
     link_series(us, &mut heads, &mut nexts);
-    convert_each(us, n, &heads, &nexts);
+    convert_each(us, n, ours, &heads, &nexts);
 }
 
 // Nothing is written before the old layout is found sound; the day block and the free slots are not written at all.
@@ -70,7 +91,8 @@ pub fn convert(book: &mut [u8]) -> u32
         return 1;
     }
     let n = n_of(book) as usize;
+    let ours = area_of(book);
     let end = 512 + 512 * used_count(&book[512..]);
-    convert_used(&mut book[512..end], n);
+    convert_used(&mut book[512..end], n, &ours);
     0
 }

@@ -17,6 +17,7 @@ use Rattle.paper.specs.Acceptance.{submitted}
 use Rattle.paper.specs.Opening.{Opening, openAnswer, opened}
 use Rattle.paper.specs.Clock.{clockAnswer, clockMoved}
 use Rattle.paper.specs.Conversion.{conversionNumber, converted}
+use Rattle.paper.specs.Rights.{enterNumber, entered}
 use Rattle.paper.specs.Readings.{markAnswer, acceptedBlock}
 use Rattle.paper.specs.Finals.{final}
 use Rattle.paper.specs.PlainRun.{plainRun}
@@ -25,11 +26,11 @@ use Rattle.listing_text.specs.Text.{textLength, textInto}
 use Rattle.desk_text.specs.Put.{Put}
 use Rattle.desk_text.specs.Words.{wordNumbered}
 use Rattle.desk_text.specs.Arguments.{idField, byteValue, wordValue}
-use Rattle.desk_lines.specs.Lines.{verdictLine, openLine, clockLine, conversionLine, markLine, blockLine, finalLine, plainLine, eicLine, quantityLine}
+use Rattle.desk_lines.specs.Lines.{verdictLine, openLine, clockLine, conversionLine, enterLine, markLine, blockLine, finalLine, plainLine, eicLine, quantityLine}
 use Rattle.desk_answers.specs.declared.Told.{Told}
 use Rattle.desk_answers.specs.declared.Numbers.{Numbers}
 use Rattle.desk_answers.specs.declared.Change.{Change}
-use Rattle.desk_answers.specs.declared.Change.the-variants.{Open, Clock, Submit, Convert}
+use Rattle.desk_answers.specs.declared.Change.the-variants.{Open, Clock, Submit, Convert, Enter}
 use Rattle.desk_answers.specs.declared.Question.{Question}
 use Rattle.desk_answers.specs.declared.Question.the-variants.{Mark, Block, Final, Plain, List, Eic, Kw}
 
@@ -80,18 +81,21 @@ changeNumber (Open numbers) book words = (openAnswer book (opening numbers words
 changeNumber (Clock minute) book given = (clockAnswer book (minute .0)) .number
 changeNumber Submit book message = (verdict book message) .number
 changeNumber Convert book given = conversionNumber book
+changeNumber Enter book right = enterNumber book right
 
 unfoldable pub changeLine : (what : Change) (book given : Bytes) → Bytes
 changeLine (Open numbers) book words = openLine (openAnswer book (opening numbers words)) (ruleNamed words) (wordNumbered 7 words) (wordNumbered 8 words)
 changeLine (Clock minute) book given = clockLine (clockAnswer book (minute .0))
 changeLine Submit book message = verdictLine (verdict book message) (blockNamed message (verdict book message))
 changeLine Convert book given = conversionLine (conversionNumber book)
+changeLine Enter book right = enterLine (enterNumber book right)
 
 unfoldable pub changed : (what : Change) (book given : Bytes) → Bytes
 changed (Open numbers) book words = opened book (opening numbers words)
 changed (Clock minute) book given = clockMoved book (minute .0)
 changed Submit book message = submitted book message
 changed Convert book given = converted book
+changed Enter book right = entered book right
 
 -- ---- what is asked
 

@@ -5,7 +5,8 @@ ghost use Rattle.paper.specs.Acceptance.{submitted};
 ghost use Rattle.paper.specs.Opening.{openAnswer, opened};
 ghost use Rattle.paper.specs.Clock.{clockAnswer, clockMoved};
 ghost use Rattle.paper.specs.Conversion.{conversionNumber, converted};
-ghost use Rattle.desk_lines.specs.Lines.{verdictLine, openLine, clockLine, conversionLine};
+ghost use Rattle.paper.specs.Rights.{enterNumber, entered};
+ghost use Rattle.desk_lines.specs.Lines.{verdictLine, openLine, clockLine, conversionLine, enterLine};
 ghost use Rattle.desk_text.specs.Words.{wordNumbered};
 ghost use Rattle.desk_answers.specs.Answers.{Tells, ruleNamed, opening, blockNamed, changeNumber, changeLine, changed};
 use crate::Change;
@@ -14,6 +15,7 @@ use crate::Told;
 use crate::words::rule_named;
 use desk_lines::clock_line;
 use desk_lines::conversion_line;
+use desk_lines::enter_line;
 use desk_lines::open_line;
 use desk_lines::verdict_line;
 use desk_text::arguments::byte_value;
@@ -77,7 +79,15 @@ fn convert_told(book: &mut [u8], line: &mut [u8]) -> Told
     Told { number, length }
 }
 
-// What is given is the words of an opening, the message of a submission, and nothing to the clock and to a conversion.
+fn enter_told(book: &mut [u8], right: &[u8], line: &mut [u8]) -> Told
+    ensures { λ r. ⌜ Tells (enterNumber (now (book .entry)) (now (right .entry))) (enterLine (enterNumber (now (book .entry)) (now (right .entry)))) r (now (line .entry)) (now (line .exit)) × (now (book .exit) ≡ entered (now (book .entry)) (now (right .entry))) ⌝ }
+{
+    let number = entering::enter_right(book, right);
+    let length = enter_line(line, number);
+    Told { number, length }
+}
+
+// What is given is the words of an opening, the message of a submission, the block of a right, and nothing to the clock and to a conversion.
 pub fn change(what: Change, book: &mut [u8], given: &[u8], line: &mut [u8]) -> Told
     ensures { λ r. ⌜ Tells (changeNumber what (now (book .entry)) (now (given .entry))) (changeLine what (now (book .entry)) (now (given .entry))) r (now (line .entry)) (now (line .exit)) × (now (book .exit) ≡ changed what (now (book .entry)) (now (given .entry))) ⌝ }
 {
@@ -86,5 +96,6 @@ pub fn change(what: Change, book: &mut [u8], given: &[u8], line: &mut [u8]) -> T
         Change::Clock(minute) => clock_told(book, minute, line),
         Change::Submit => submit_told(book, given, line),
         Change::Convert => convert_told(book, line),
+        Change::Enter => enter_told(book, given, line),
     }
 }

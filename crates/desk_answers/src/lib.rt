@@ -18,12 +18,13 @@ pub struct Numbers {
     pub lead: u32,
 }
 
-// What changes a book: an opening, whose day, area, receiver and rule are words of the command; a minute; a message; the conversion of a book of the old layout.
+// What changes a book: an opening, whose day, area, receiver and rule are words of the command; a minute; a message; the conversion of a book of the old layout; a right.
 pub enum Change {
     Open(Numbers),
     Clock(Minute),
     Submit,
     Convert,
+    Enter,
 }
 
 // What is asked: of a book, the mark or the block of a series by its sender and id, a final value by seller, buyer and position, or all of it; of no

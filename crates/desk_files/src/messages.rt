@@ -1,4 +1,4 @@
-// Messages in files: handed in, and made from their text form.
+// Messages and rights in files: handed in, and made from their text form.
 ghost use mathlib.Core.Path.{_≡_};
 use crate::NO_MESSAGE;
 use crate::NO_TEXT;
@@ -86,4 +86,25 @@ pub fn message(words: &[u8]) {
         return;
     }
     message_of(words, part_of(&room, 0, k));
+}
+
+// Nothing is entered of a wrong text.
+fn right_in(words: &[u8], text: &[u8]) {
+    let mut block = [0u8; 512];
+    let line = message_text::right_from_text(text, &mut block).line;
+    if line != 0 {
+        wrong_line(line);
+        return;
+    }
+    change(Change::Enter, word(words, 2), &block);
+}
+
+// The text is loaded before the book is touched.
+pub fn right(words: &[u8]) {
+    let mut room = [0u8; 524288];
+    let k = load_word(words, 3, &mut room, NO_TEXT);
+    if k == NOT_LOADED {
+        return;
+    }
+    right_in(words, part_of(&room, 0, k));
 }

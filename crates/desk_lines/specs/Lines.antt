@@ -12,8 +12,9 @@ use Rattle.paper.specs.declared.MarkAnswer.{MarkAnswer}
 use Rattle.paper.specs.declared.FinalAnswer.{FinalAnswer}
 use Rattle.paper.specs.declared.PlainRunAnswer.{PlainRunAnswer}
 use Rattle.paper.specs.declared.QuantityRead.{QuantityRead}
-use Rattle.paper.specs.Layout.{Bytes, Block, nOf, lesserRule, sameRule, version, idOf, inParty, outParty, differing, first, partner, quantities, entry}
+use Rattle.paper.specs.Layout.{Bytes, Block, nOf, lesserRule, sameRule, version, businessType, contractType, agreement, idOf, inArea, outArea, inParty, outParty, differing, first, partner, quantities, entry}
 use Rattle.paper.specs.Ids.{idText}
+use Rattle.paper.specs.Book.{withCapacity, isExternal}
 use Rattle.paper.specs.Codes.{reasonCode, replyTo}
 use Rattle.paper.specs.Marks.{stateOfMark, markCode}
 use Rattle.paper.specs.Listing.{text}
@@ -77,6 +78,9 @@ unfoldable pub conversionLine : (number : ℕ) → Bytes
 conversionLine number =
     answerOf number ++ cond (is number 0) (text ": every mark and net is written by the plain rule\n") (text " in the old layout; where plain says yes it needs no conversion\n")
 
+unfoldable pub enterLine : (number : ℕ) → Bytes
+enterLine number = telling number (text ": the right is kept; its holder may send A03 series on it\n")
+
 -- A28 or A09 where a mark has a code, and what its state means
 unfoldable pub stateText : (differing partner : ℕ) → Bytes
 stateText differing partner = codeText (markCode differing partner) ++ text ", " ++ stateMeaning (stateOfMark differing partner)
@@ -119,8 +123,19 @@ quantitiesText q (suc k) = quantitiesText q k ++ (32 ∷ megawatts (entry q k))
 unfoldable pub nameText : (x : Block) → Bytes
 nameText x = (text ": series " ++ idText (idOf x)) ++ worded (text " version ") (version x) ++ (text " in " ++ inParty x) ++ (text " out " ++ outParty x)
 
+-- the right that a series is sent on
+unfoldable pub capacityText : (x : Block) → Bytes
+capacityText x = cond (withCapacity x) (worded (text " contract ") (contractType x) ++ (text " agreement " ++ idText (agreement x))) []
+
+-- what an external schedule has beside a trade (C-14)
+unfoldable pub externalText : (x : Block) → Bytes
+externalText x =
+    cond (isExternal x)
+    (worded (text " type ") (businessType x) ++ (text " in-area " ++ inArea x) ++ (text " out-area " ++ outArea x) ++ capacityText x)
+    []
+
 unfoldable pub seriesText : (x : Block) → Bytes
-seriesText x = nameText x ++ markText (text " differ ") (differing x) (first x) (partner x)
+seriesText x = nameText x ++ externalText x ++ markText (text " differ ") (differing x) (first x) (partner x)
 
 -- number is that of the mark's call, which tells an unsound book from an unknown series
 unfoldable pub blockLine : (number : ℕ) (x : Block) → Bytes

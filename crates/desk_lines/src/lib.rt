@@ -5,8 +5,8 @@ ghost use mathlib.Core.List.{[], _++_};
 ghost use Prim.Native.Nat.{_≤_};
 ghost use Rattle.paper.specs.Listing.{text};
 ghost use Rattle.desk_text.specs.Put.{Put};
-ghost use Rattle.desk_lines.specs.Lines.{answerText, answerOf, telling, megawatts, markText, dayText, nameText, seriesText, quantitiesText};
-ghost use Rattle.desk_lines.specs.Lines.{verdictLine, openLine, clockLine, conversionLine, markLine, finalLine, plainLine, quantityLine, eicLine, blockLine};
+ghost use Rattle.desk_lines.specs.Lines.{answerText, answerOf, telling, megawatts, markText, dayText, nameText, capacityText, externalText, seriesText, quantitiesText};
+ghost use Rattle.desk_lines.specs.Lines.{verdictLine, openLine, clockLine, conversionLine, enterLine, markLine, finalLine, plainLine, quantityLine, eicLine, blockLine};
 use block::numbers::number_4;
 use desk_faults::put_fault;
 use desk_faults::put_opening_fault;
@@ -165,6 +165,19 @@ pub fn conversion_line(line: &mut [u8], number: u32) -> usize
     )
 }
 
+pub fn enter_line(line: &mut [u8], number: u32) -> usize
+    ensures { λ r. ⌜ Put 0 (enterLine number) r (now (line .entry)) (now (line .exit)) ⌝ }
+{
+    let a = put_answer_of(line, number);
+    put_either(
+        line,
+        a,
+        number == 0,
+        b": the right is kept; its holder may send A03 series on it\n",
+        b"\n",
+    )
+}
+
 fn put_mark(
     line: &mut [u8],
     at: usize,
@@ -271,13 +284,36 @@ fn put_name(line: &mut [u8], at: usize, x: &[u8]) -> usize
     put_field(line, c, b" out ", layout::out_party(x))
 }
 
+fn put_capacity(line: &mut [u8], at: usize, x: &[u8]) -> usize
+    ensures { λ r. ⌜ Put at (capacityText (now (x .entry))) r (now (line .entry)) (now (line .exit)) ⌝ }
+{
+    if slots::with_capacity(x) {
+        let a = put_worded(line, at, b" contract ", layout::contract_type(x) as usize);
+        return put_field(line, a, b" agreement ", id_text(layout::agreement(x)));
+    }
+    put(line, at, b"")
+}
+
+fn put_external(line: &mut [u8], at: usize, x: &[u8]) -> usize
+    ensures { λ r. ⌜ Put at (externalText (now (x .entry))) r (now (line .entry)) (now (line .exit)) ⌝ }
+{
+    if slots::is_external(x) {
+        let a = put_worded(line, at, b" type ", layout::business_type(x) as usize);
+        let b = put_field(line, a, b" in-area ", layout::in_area(x));
+        let c = put_field(line, b, b" out-area ", layout::out_area(x));
+        return put_capacity(line, c, x);
+    }
+    put(line, at, b"")
+}
+
 fn put_series(line: &mut [u8], at: usize, x: &[u8]) -> usize
     ensures { λ r. ⌜ Put at (seriesText (now (x .entry))) r (now (line .entry)) (now (line .exit)) ⌝ }
 {
     let a = put_name(line, at, x);
+    let b = put_external(line, a, x);
     put_mark(
         line,
-        a,
+        b,
         b" differ ",
         layout::differing(x),
         layout::first(x),

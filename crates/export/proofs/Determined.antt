@@ -16,6 +16,7 @@ use Rattle.export.proofs.book.tetherbay_open.Reads as opening
 use Rattle.export.proofs.book.tetherbay_open_by.Reads as opening-by
 use Rattle.export.proofs.book.tetherbay_convert.Reads as convert
 use Rattle.export.proofs.book.tetherbay_clock.Reads as clock
+use Rattle.export.proofs.book.tetherbay_enter_right.Reads as enter-right
 use Rattle.export.proofs.book.tetherbay_submit.Reads as submit
 use Rattle.export.proofs.book.tetherbay_judge.Reads as judge
 use Rattle.export.proofs.book.tetherbay_mark.Reads as mark
@@ -52,6 +53,9 @@ convert-determined k a answer other s t p q = (p .0 .0 ∙ sym (q .0 .0), p .0 .
 
 pub clock-determined : OneOutcome clock.Post (λ s. now (s .0))
 clock-determined k a answer other s t p q = (p .0 .0 ∙ sym (q .0 .0), p .0 .1 ∙ sym (q .0 .1))
+
+pub enter-right-determined : OneOutcome enter-right.Post (λ s. now (s .0))
+enter-right-determined k a answer other s t p q = (p .0 .0 ∙ sym (q .0 .0), p .0 .1 ∙ sym (q .0 .1))
 
 pub submit-determined : OneOutcome submit.Post (λ s. now (s .0))
 submit-determined k a answer other s t p q = (p .0 .0 ∙ sym (q .0 .0), p .0 .1 ∙ sym (q .0 .1))

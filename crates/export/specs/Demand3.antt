@@ -10,8 +10,8 @@ use Rattle.laws.specs.Lists.{find, nth}
 use Rattle.paper.specs.declared.MarkAnswer.{MarkAnswer}
 use Rattle.paper.specs.declared.FinalAnswer.{FinalAnswer}
 use Rattle.paper.specs.declared.PlainRunAnswer.{PlainRunAnswer}
-use Rattle.paper.specs.Layout.{Bytes, Block, nets, pair}
-use Rattle.paper.specs.Book.{dayBlock, used, isSenderBlockOf, slotOf, isSeriesOfPair}
+use Rattle.paper.specs.Layout.{Bytes, Block, area, nets, pair}
+use Rattle.paper.specs.Book.{dayBlock, used, isSenderBlockOf, trade, slotOf, isSeriesWith, isTradeOf}
 use Rattle.paper.specs.Finals.{final}
 use Rattle.paper.specs.Readings.{markAnswer}
 use Rattle.paper.specs.Conversion.{keptMessages}
@@ -19,21 +19,21 @@ use Rattle.paper.specs.PlainRule.{otherParty, plainNets}
 use Rattle.promises.specs.Laws.Invariant.{Invariant}
 use Rattle.promises.specs.Words.{content, finalGiven, plainContent, plainStoredAs, plainMarkAnswer, plainFinal}
 
--- the slot that a mark names, of the series x that e last sent under an id: it holds the series of the other party with the same pair; where there is none it is 0,
--- which no slot is
+-- the slot that a mark names, of the series x that e last sent under an id: it holds the trade of the other party with the same pair; where there is none, as for
+-- an external schedule, it is 0, which no slot is
 unfoldable pub Partner : (book : Bytes) (messages : List Bytes) (e : Bytes) (id : Bytes) (slot : ℕ) → Type 0
 Partner book messages e id slot =
     (x : Block) → plainStoredAs messages e id ≡ some x
-    → nth (used book) slot ≡ find (isSeriesOfPair (slotOf (used book) (otherParty e (pair x))) (pair x)) (used book)
+    → nth (used book) slot ≡ find (isTradeOf (slotOf (used book) (otherParty e (pair x))) (trade x)) (used book)
 
--- the series kept under each sender and pair are those of its latest message, sender's slot, mark and check apart; marks and nets are what the plain rule gives on the
+-- the series kept under each sender and key are those of its latest message, sender's slot, mark and check apart; marks and nets are what the plain rule gives on the
 -- messages. The slot that a mark names is told the rule: by `partners` a series whose counterpart agrees is told from one that stands alone. `invariant` is what makes
 -- all this hold after the next call
 pub record Demand3 (book : Bytes) (messages : List Bytes) : Type 0 where
-  pub series : (e parties : Bytes) → Option·map content (find (isSeriesOfPair (slotOf (used book) e) parties) (used book)) ≡ plainContent messages e parties
+  pub series : (e key : Bytes) → Option·map content (find (isSeriesWith (slotOf (used book) e) key) (used book)) ≡ plainContent messages e key
   pub marks : (e id : Bytes) → markAnswer book e id ≡ plainMarkAnswer messages e id ((markAnswer book e id) .partner .0)
   pub partners : (e id : Bytes) → Partner book messages e id ((markAnswer book e id) .partner .0)
-  pub senders-nets : (e : Bytes) → Option·map nets (find (isSenderBlockOf e) (used book)) ≡ plainNets messages e
+  pub senders-nets : (e : Bytes) → Option·map nets (find (isSenderBlockOf e) (used book)) ≡ plainNets (area (dayBlock book)) messages e
   pub invariant : Invariant book messages
 
 -- a final value once given is given unchanged
@@ -56,6 +56,10 @@ ConversionKeeps before number after =
 -- a clock move, accepted or not, is no message
 unfoldable pub ClockKeeps : (before : Bytes) (after : Bytes) → Type 0
 ClockKeeps before after = (messages : List Bytes) → Demand3 before messages → Demand3 after messages × FinalsStay before after
+
+-- a right that is entered, or refused, is no message
+unfoldable pub EnteringKeeps : (before : Bytes) (after : Bytes) → Type 0
+EnteringKeeps before after = (messages : List Bytes) → Demand3 before messages → Demand3 after messages × FinalsStay before after
 
 -- a submitted message is one more of the accepted ones exactly where its number is 0
 unfoldable pub SubmissionKeeps : (before : Bytes) (message : Bytes) (number : ℕ) (after : Bytes) → Type 0

@@ -5,6 +5,7 @@ ghost use Rattle.paper.specs.Sound.{sound};
 ghost use Rattle.paper.specs.Opening.{namingNone, openAnswer, opened};
 ghost use Rattle.paper.specs.Clock.{clockAnswer, clockMoved};
 ghost use Rattle.paper.specs.Conversion.{conversionNumber, converted};
+ghost use Rattle.paper.specs.Rights.{enterNumber, entered};
 ghost use Rattle.paper.specs.Readings.{markAnswer};
 ghost use Rattle.paper.specs.Finals.{final};
 ghost use Rattle.paper.specs.PlainRun.{plainRun};
@@ -13,7 +14,7 @@ ghost use Rattle.listing_text.specs.Text.{textLength, textInto};
 ghost use Rattle.paper.specs.Rules.{verdict};
 ghost use Rattle.paper.specs.Acceptance.{submitted};
 ghost use Rattle.paper.specs.Looks.{submitAnswer};
-ghost use Rattle.export.specs.Demand3.{OpeningKeeps, ConversionKeeps, ClockKeeps, SubmissionKeeps, MarkByMessages, FinalByMessages, PlainRunSaysYes};
+ghost use Rattle.export.specs.Demand3.{OpeningKeeps, ConversionKeeps, ClockKeeps, EnteringKeeps, SubmissionKeeps, MarkByMessages, FinalByMessages, PlainRunSaysYes};
 use paper::ClockAnswer;
 use paper::FinalAnswer;
 use paper::MarkAnswer;
@@ -79,6 +80,15 @@ pub extern "C" fn tetherbay_clock(book: &mut [u8], minute: u16) -> ClockAnswer
     ensures { λ _. ⌜ ClockKeeps (now (book .entry)) (now (book .exit)) ⌝ }
 {
     clock::clock(book, Minute(minute))
+}
+
+// A rights block, which no later call alters.
+#[no_mangle]
+pub extern "C" fn tetherbay_enter_right(book: &mut [u8], right: &[u8]) -> u32
+    ensures { λ r. ⌜ (r ≡ enterNumber (now (book .entry)) (now (right .entry))) × (now (book .exit) ≡ entered (now (book .entry)) (now (right .entry))) ⌝ }
+    ensures { λ _. ⌜ EnteringKeeps (now (book .entry)) (now (book .exit)) ⌝ }
+{
+    entering::enter_right(book, right)
 }
 
 // Isolation (promise 5) is said of the verdict alone: the number of looks counts other senders' slots too, and stands outside it (C-23).

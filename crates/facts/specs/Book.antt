@@ -1,7 +1,7 @@
 -- A book is its day block and its slots, and bytes joined from blocks of 512 are read as those blocks; what a test says of a block follows from its kind.
 use Rattle.laws.specs.Base.{_≡_, refl, sym, ap, ap₂, _∙_, Bool, true, false, Option·getD, List, [], _∷_, _++_, map, append-assoc, ℕ, zero, suc, _+_, _-_, _*_, _/_, _%_, _≤_, _<_, arith, length, take, drop, List·getD-append, length-drop, drop-at, drop-drop, take-at}
 use Rattle.laws.specs.Tests.{_or_, is}
-use Rattle.laws.specs.Tests.Laws.{split, clash, and-left, and-right, and-both, and-no-left, and-no-right, or-else, is-yes, is-equal, is-other}
+use Rattle.laws.specs.Tests.Laws.{split, clash, and-left, and-right, and-both, and-no-left, and-no-right, or-no, or-else, is-yes, is-equal, is-other}
 use Rattle.laws.specs.Lists.{same, place, has, until, All, find, further}
 use Rattle.laws.specs.Lists.Same.{same-yes, same-equal}
 use Rattle.laws.specs.Lists.Each.{all-until, all-getD, every-all, getD-inside, getD-map}
@@ -12,7 +12,7 @@ use Rattle.laws.specs.Cut.{join}
 use Rattle.laws.specs.Cut.Laws.{cut-length, block-zero, drop-cut, cut-drop, cut-append, join-length, cut-join, cut-widths}
 use Rattle.paper.specs.Check.{checkStep, checkFrom, checkOf, checkRight}
 use Rattle.paper.specs.Layout.{Bytes, Block, blocks, zeros, kind, sender, sendersSlot}
-use Rattle.paper.specs.Book.{dayBlock, slots, isFree, used, isSender, isSeries, numbered, isSenderBlockOf, isSeriesOf}
+use Rattle.paper.specs.Book.{dayBlock, slots, isFree, used, isSender, isSeries, isRight, numbered, isSenderBlockOf, isSeriesOf}
 use Rattle.facts.specs.Layout.{zeros-part, value-zeros}
 
 -- ---- kinds
@@ -49,14 +49,36 @@ pub series-not-sender : (b : Block) → isSeries b ≡ true → isSender b ≡ f
 unfolding isSender
 series-not-sender b t = is-other _ _ (λ e. omega (arith, series-kind b t))
 
+pub right-not-sender : (b : Block) → isRight b ≡ true → isSender b ≡ false
+unfolding isRight isSender
+right-not-sender b t = is-other _ _ (λ e. omega (arith, is-yes _ _ t))
+
+pub right-not-series : (b : Block) → isRight b ≡ true → isSeries b ≡ false
+unfolding isRight isSeries
+right-not-series b t = is-other _ _ (λ e. omega (arith, is-yes _ _ t))
+
+pub series-not-right : (b : Block) → isSeries b ≡ true → isRight b ≡ false
+unfolding isRight
+series-not-right b t = is-other _ _ (λ e. omega (arith, series-kind b t))
+
+pub sender-not-right : (b : Block) → isSender b ≡ true → isRight b ≡ false
+unfolding isRight
+sender-not-right b t = is-other _ _ (λ e. omega (arith, sender-kind b t))
+
+pub right-of-kind : (b c : Block) → kind b ≡ kind c → isRight b ≡ isRight c
+unfolding isRight
+right-of-kind b c e = ap (λ k. is k 4) e
+
 free-kind : (b : Block) → isFree b ≡ true → kind b ≡ 0
 unfolding isFree kind number
 free-kind b e = value-zeros (part 0 1 b) (zeros-part 0 1 b e)
 
-pub kind-used : (b : Block) → (isSender b or isSeries b) ≡ true → isFree b ≡ false
-unfolding isSender isSeries
+-- a sender, a series or a right
+pub kind-used : (b : Block) → (isSender b or isSeries b or isRight b) ≡ true → isFree b ≡ false
+unfolding isSender isSeries isRight
 kind-used b e = split (isFree b)
-    (λ t. clash (or-else _ _ e (is-other _ _ (λ q. omega (arith, free-kind b t)))) (is-other _ _ (λ q. omega (arith, free-kind b t))))
+    (λ t. clash (or-else _ _ e (or-no _ _ (is-other _ _ (λ q. omega (arith, free-kind b t))) (is-other _ _ (λ q. omega (arith, free-kind b t)))))
+    (is-other _ _ (λ q. omega (arith, free-kind b t))))
     (λ t. t)
 
 -- ---- the sender block of an EIC, the series of a slot

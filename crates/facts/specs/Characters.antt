@@ -9,7 +9,7 @@ use Rattle.paper.specs.Layout.{Bytes, Block, sender, inParty, outParty}
 use Rattle.paper.specs.Eic.{eicNumber, eicValid}
 use Rattle.paper.specs.Book.{numbered}
 use Rattle.paper.specs.Message.{headOf, seriesOf}
-use Rattle.paper.specs.Rules.{fine, numberOf, _then_, broken, brokenBy, overPositions, wrongCharacter, headVerdict, formVerdict, quantityVerdict, closedVerdict, valuesVerdict, seriesVerdict, eachSeries, lastVerdict, judge, verdict}
+use Rattle.paper.specs.Rules.{fine, numberOf, _then_, broken, brokenBy, overPositions, wrongCharacter, headVerdict, formVerdict, quantityVerdict, closedVerdict, limitVerdict, rightVerdict, lateVerdict, valuesVerdict, seriesVerdict, eachSeries, lastVerdict, judge, verdict}
 use Rattle.paper.specs.Opening.{Opening, openNumber, openAnswer}
 use Rattle.facts.specs.Eic.{first-named, second-named, good-two}
 
@@ -122,31 +122,35 @@ module _ (message : Bytes) where
   unfolding headVerdict is
   told-head day known = told-then _ _ (other 3 _ 0 0 refl refl) (told-then _ _ (told-4 _) (told-then _ _ (other 5 _ 0 0 refl refl) (other 6 _ 0 0 refl refl)))
 
-  module _ (day : Block) (own : List Block) (head : Block) (seen : List Block) (number : ℕ) (y : Block) where
+  module _ (day : Block) (own rights : List Block) (head : Block) (seen : List Block) (number : ℕ) (y : Block) where
     told-form : numbered (seriesOf message) number ≡ y → Told message (formVerdict day own head seen number y)
     unfolding formVerdict is
     told-form i =
         told-then _ _ (other 7 _ number 0 refl refl) (told-then _ _ (told-8 _ number y i) (told-then _ _ (other 9 _ number 0 refl refl) (other 10 _ number 0 refl refl)))
 
-    told-values : (x : Block) → Told message (valuesVerdict day x head number y)
-    unfolding valuesVerdict quantityVerdict closedVerdict is
+    told-right : (n : ℕ) → Told message (rightVerdict n rights seen number y)
+    unfolding rightVerdict limitVerdict is
+    told-right n = told-then _ _ (other 18 _ number 0 refl refl) (told-positions _ (λ k. other 19 _ number (k + 1) refl refl))
+
+    told-values : (x : Block) → Told message (valuesVerdict day x rights head seen number y)
+    unfolding valuesVerdict quantityVerdict lateVerdict closedVerdict is
     told-values x =
         told-then _ _
         (told-positions _ (λ k. told-then _ _ (other 11 _ number (k + 1) refl refl) (told-then _ _ (other 12 _ number (k + 1) refl refl) (other 13 _ number (k + 1) refl refl))))
-        (told-then _ _ (told-positions _ (λ k. other 14 _ number (k + 1) refl refl)) (other 15 _ number 0 refl refl))
+        (told-then _ _ (told-right _) (told-then _ _ (told-positions _ (λ k. other 14 _ number (k + 1) refl refl)) (other 15 _ number 0 refl refl)))
 
-    told-series : numbered (seriesOf message) number ≡ y → Told message (seriesVerdict day own head seen number y)
+    told-series : numbered (seriesOf message) number ≡ y → Told message (seriesVerdict day own rights head seen number y)
     unfolding seriesVerdict
     told-series i = told-then _ _ (told-form i) (told-values _)
 
   -- ys are those from number k + 1 on
-  told-each : (day : Block) (own : List Block) (head : Block) (seen : List Block) (k : ℕ) (ys : List Block) → drop k (seriesOf message) ≡ ys
-      → Told message (eachSeries day own head seen (k + 1) ys)
+  told-each : (day : Block) (own rights : List Block) (head : Block) (seen : List Block) (k : ℕ) (ys : List Block) → drop k (seriesOf message) ≡ ys
+      → Told message (eachSeries day own rights head seen (k + 1) ys)
   unfolding eachSeries
-  told-each day own head seen k [] e = told-fine
-  told-each day own head seen k (y ∷ ys) e =
-      told-then _ _ (told-series day own head seen (k + 1) y (in-front (seriesOf message) k y ys e))
-      (told-each day own head (seen ++ y ∷ []) (k + 1) ys (behind (seriesOf message) k y ys e))
+  told-each day own rights head seen k [] e = told-fine
+  told-each day own rights head seen k (y ∷ ys) e =
+      told-then _ _ (told-series day own rights head seen (k + 1) y (in-front (seriesOf message) k y ys e))
+      (told-each day own rights head (seen ++ y ∷ []) (k + 1) ys (behind (seriesOf message) k y ys e))
 
   told-last : (known : Block) (own : List Block) (free : ℕ) (series : List Block) → Told message (lastVerdict known own free series)
   unfolding lastVerdict is
@@ -157,4 +161,4 @@ module _ (message : Bytes) where
   verdict-told book =
       told-then _ _ (other 1 _ 0 0 refl refl)
       (told-then _ _ (other 2 _ 0 0 refl refl)
-      (told-then _ _ (told-head _ _) (told-then _ _ (told-each _ _ _ [] 0 _ refl) (told-last _ _ _ _))))
+      (told-then _ _ (told-head _ _) (told-then _ _ (told-each _ _ _ _ [] 0 _ refl) (told-last _ _ _ _))))

@@ -1,5 +1,5 @@
 -- A field that is written is read as it was written, and no other field changes with it: each field is a part of the block, and no two parts meet.
-use Rattle.laws.specs.Base.{_≡_, refl, sym, ap, _∙_, true, [], _∷_, _++_, ℕ, zero, suc, _+_, _-_, _*_, _≤_, _<_, add-zero, arith, length, drop-nil, take-nil}
+use Rattle.laws.specs.Base.{_≡_, refl, sym, ap, ap₂, _∙_, true, [], _∷_, _++_, ℕ, zero, suc, _+_, _-_, _*_, _≤_, _<_, add-zero, arith, length, drop-nil, take-nil}
 use Rattle.laws.specs.Tests.{is}
 use Rattle.laws.specs.Tests.Laws.{and-left, and-right, and-both, is-yes, is-equal}
 use Rattle.laws.specs.Lists.{every, All}
@@ -7,7 +7,7 @@ use Rattle.laws.specs.Lists.Each.{all-append, every-all, all-every}
 use Rattle.laws.specs.Bytes.{part, written, value, little, number}
 use Rattle.laws.specs.Bytes.Laws.{part-none, part-part, part-add, all-part, written-length, part-written-before, part-written-after, part-written-same, little-length, value-little, number-part}
 use Rattle.paper.specs.declared.Rule.{Rule}
-use Rattle.paper.specs.Layout.{Bytes, Block, zeros, kind, nOf, lead, clockPlus10080, ruleOf, dayOfBook, area, receiver, dayZeros, version, idOf, seriesCount, sender, dayOfMessage, nets, net, senderZeros, businessType, contractType, sendersSlot, inArea, outArea, inParty, outParty, pair, agreement, mark, differing, first, partner, quantities, quantity, entry, aboveN, senderZerosInMessage, withClock, withSendersSlot, withMark, withNets}
+use Rattle.paper.specs.Layout.{Bytes, Block, zeros, kind, nOf, lead, clockPlus10080, ruleOf, dayOfBook, area, receiver, dayZeros, version, idOf, seriesCount, sender, dayOfMessage, nets, net, senderZeros, businessType, contractType, sendersSlot, inArea, outArea, inParty, outParty, pair, agreement, key, mark, differing, first, partner, quantities, quantity, entry, aboveN, senderZerosInMessage, withClock, withSendersSlot, withMark, withNets}
 use Rattle.facts.specs.Check.{sealed-length, part-sealed, sealed-again}
 
 -- ---- lengths
@@ -98,6 +98,10 @@ pub pair-with-senders-slot : (slot : ℕ) (x : Block) → pair (withSendersSlot 
 unfolding pair
 pair-with-senders-slot slot x = part-with-senders-slot-after slot 56 32 x (omega arith)
 
+pub key-with-senders-slot : (slot : ℕ) (x : Block) → key (withSendersSlot slot x) ≡ key x
+unfolding key
+key-with-senders-slot slot x = ap₂ _++_ (part-with-senders-slot-before slot 4 2 x (omega arith)) (part-with-senders-slot-after slot 24 80 x (omega arith))
+
 pub quantities-with-senders-slot : (slot : ℕ) (x : Block) → quantities (withSendersSlot slot x) ≡ quantities x
 unfolding quantities
 quantities-with-senders-slot slot x = part-with-senders-slot-after slot 108 400 x (omega arith)
@@ -117,6 +121,10 @@ senders-slot-with-mark m x = ap value (part-with-mark-before m 6 2 x (omega arit
 pub pair-with-mark : (m : Bytes) (x : Block) → pair (withMark m x) ≡ pair x
 unfolding pair
 pair-with-mark m x = part-with-mark-before m 56 32 x (omega arith)
+
+pub key-with-mark : (m : Bytes) (x : Block) → key (withMark m x) ≡ key x
+unfolding key
+key-with-mark m x = ap₂ _++_ (part-with-mark-before m 4 2 x (omega arith)) (part-with-mark-before m 24 80 x (omega arith))
 
 pub quantities-with-mark : (m : Bytes) (x : Block) → length m ≡ 4 → quantities (withMark m x) ≡ quantities x
 unfolding quantities
@@ -243,6 +251,10 @@ module _ (x y : Block) (a : Alike x y) where
   pub alike-id : idOf x ≡ idOf y
   unfolding idOf
   alike-id = a .middle 8 16 (omega arith) (omega arith)
+
+  pub alike-key : key x ≡ key y
+  unfolding key
+  alike-key = ap₂ _++_ (a .front 4 2 (omega arith)) (a .middle 24 80 (omega arith) (omega arith))
 
   pub alike-in-area : inArea x ≡ inArea y
   unfolding inArea

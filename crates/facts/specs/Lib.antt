@@ -1,6 +1,7 @@
 -- Laws of the paper's definitions, which code and theorems cite.
 pub mod Check
 pub mod Layout
+pub mod Keys
 pub mod Book
 pub mod Eic
 pub mod QuantityText
@@ -18,6 +19,7 @@ pub mod Calls
 pub mod Characters
 -- what an acceptance does to each block
 pub mod Pairs
+pub mod Trades
 pub mod Renewal
 pub mod Remarking
 pub mod Senders
@@ -30,3 +32,5 @@ pub mod Partners
 pub mod Conversion
 pub mod KeptMessages
 pub mod Unchanged
+-- what entering a right says (C-14)
+pub mod Rights

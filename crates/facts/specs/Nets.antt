@@ -1,13 +1,15 @@
 -- What a net says: the four bytes hold the sum bought less the sum sold, by its remainder by 2 to the 32. A sum of at most 200 quantities of at most 9,999,999
 -- is at most 1,999,999,800, less than half of that, so the word tells the signed number.
 use Rattle.laws.specs.Base.{_≡_, refl, Bool, true, false, cond, List, ℕ, zero, suc, _+_, _-_, _*_, _%_, _≤_, _<_, arith, length, length-append}
-use Rattle.laws.specs.Lists.{same, total, All}
+use Rattle.laws.specs.Lists.{total, All}
 use Rattle.laws.specs.Lists.Each.{all-imply}
 use Rattle.laws.specs.Lists.Count.{total-bound}
 use Rattle.laws.specs.Bytes.{little}
 use Rattle.laws.specs.Bytes.Laws.{little-length}
-use Rattle.paper.specs.Layout.{Bytes, Block, inParty, outParty, quantity}
-use Rattle.paper.specs.Nets.{bought, sold, netOf, netsTo, netsOf}
+use Rattle.paper.specs.Layout.{Bytes, Block, quantity}
+use Rattle.facts.specs.Layout.{Alike, alike-key, alike-in-area, alike-out-area, alike-in-party, alike-out-party}
+use Rattle.facts.specs.Keys.{key-is-external}
+use Rattle.paper.specs.Nets.{comesIn, goesOut, bought, sold, netOf, netsTo, netsOf}
 
 -- the word of gain less loss, both at most 1,999,999,800: itself where that is not negative, else 2 to the 32 more
 pub record SignedSum (word gain loss : ℕ) : Type 0 where
@@ -30,34 +32,43 @@ shares-small : (p : Block → Bool) (k : ℕ) (l : List Block) → All (λ x. qu
 shares-small p k l h = total-bound (λ x. cond (p x) (quantity x k) 0) 9999999 l (all-imply (λ x. quantity x k ≤ 9999999) (λ x. cond (p x) (quantity x k) 0 ≤ 9999999)
     (λ x q. share-small (p x) _ _ q) l h)
 
-module _ (e : Bytes) (series : List Block) (k : ℕ) (few : length series ≤ 200) (small : All (λ x. quantity x k ≤ 9999999) series) where
-  pub bought-most : bought e series k ≤ 1999999800
+module _ (ours e : Bytes) (series : List Block) (k : ℕ) (few : length series ≤ 200) (small : All (λ x. quantity x k ≤ 9999999) series) where
+  pub bought-most : bought ours e series k ≤ 1999999800
   unfolding bought
-  bought-most = let h = shares-small (λ x. same (inParty x) e) k series small in omega arith
+  bought-most = let h = shares-small (comesIn ours e) k series small in omega arith
 
-  pub sold-most : sold e series k ≤ 1999999800
+  pub sold-most : sold ours e series k ≤ 1999999800
   unfolding sold
-  sold-most = let h = shares-small (λ x. same (outParty x) e) k series small in omega arith
+  sold-most = let h = shares-small (goesOut ours e) k series small in omega arith
 
-  pub net-signed : SignedSum (netOf e series k) (bought e series k) (sold e series k)
+  pub net-signed : SignedSum (netOf ours e series k) (bought ours e series k) (sold ours e series k)
   unfolding netOf
   net-signed = word-signed _ _ bought-most sold-most
 
 -- ---- their bytes, and what they depend on
 
-pub nets-to-length : (e : Bytes) (l : List Block) (m : ℕ) → length (netsTo e l m) ≡ 4 * m
+-- two series that are alike but for sender's slot, mark and check count alike
+pub alike-comes-in : (ours e : Bytes) (x y : Block) → Alike x y → comesIn ours e x ≡ comesIn ours e y
+unfolding comesIn
+alike-comes-in ours e x y a = rw (key-is-external x y (alike-key x y a), alike-in-area x y a, alike-in-party x y a)
+
+pub alike-goes-out : (ours e : Bytes) (x y : Block) → Alike x y → goesOut ours e x ≡ goesOut ours e y
+unfolding goesOut
+alike-goes-out ours e x y a = rw (key-is-external x y (alike-key x y a), alike-out-area x y a, alike-out-party x y a)
+
+pub nets-to-length : (ours e : Bytes) (l : List Block) (m : ℕ) → length (netsTo ours e l m) ≡ 4 * m
 unfolding netsTo
-nets-to-length e l zero = refl
-nets-to-length e l (suc m) = omega (arith, length-append (netsTo e l m) (little 4 (netOf e l m)), little-length 4 (netOf e l m), nets-to-length e l m)
+nets-to-length ours e l zero = refl
+nets-to-length ours e l (suc m) = omega (arith, length-append (netsTo ours e l m) (little 4 (netOf ours e l m)), little-length 4 (netOf ours e l m), nets-to-length ours e l m)
 
-pub nets-of-length : (e : Bytes) (l : List Block) → length (netsOf e l) ≡ 400
+pub nets-of-length : (ours e : Bytes) (l : List Block) → length (netsOf ours e l) ≡ 400
 unfolding netsOf
-nets-of-length e l = nets-to-length e l 100
+nets-of-length ours e l = nets-to-length ours e l 100
 
-pub nets-agree : (e : Bytes) (l r : List Block) → ((k : ℕ) → k < 100 → (bought e l k ≡ bought e r k) × (sold e l k ≡ sold e r k)) → netsOf e l ≡ netsOf e r
+pub nets-agree : (ours e : Bytes) (l r : List Block) → ((k : ℕ) → k < 100 → (bought ours e l k ≡ bought ours e r k) × (sold ours e l k ≡ sold ours e r k)) → netsOf ours e l ≡ netsOf ours e r
 unfolding netsOf netsTo netOf
-nets-agree e l r f = by 100 (omega arith)
+nets-agree ours e l r f = by 100 (omega arith)
   where
-    by : (m : ℕ) → m ≤ 100 → netsTo e l m ≡ netsTo e r m
+    by : (m : ℕ) → m ≤ 100 → netsTo ours e l m ≡ netsTo ours e r m
     by zero h = refl
     by (suc m) h = let q = f m (omega arith) in rw (by m (omega arith), q .0, q .1)

@@ -5,12 +5,13 @@ use Rattle.laws.specs.Tests.Laws.{split, and-no-left}
 use Rattle.laws.specs.Lists.{same, find}
 use Rattle.laws.specs.Lists.Search.{find-map, place-map-each}
 use Rattle.laws.specs.Bytes.Laws.{little-length}
-use Rattle.paper.specs.Layout.{Bytes, Block, kind, sendersSlot, pair, quantities, withMark}
-use Rattle.paper.specs.Book.{isSender, isSeries, isSenderBlockOf, isSeriesOfPair}
+use Rattle.paper.specs.Layout.{Bytes, Block, kind, sendersSlot, key, quantities, withMark}
+use Rattle.paper.specs.Book.{isSender, isSeries, trade, isSenderBlockOf}
 use Rattle.paper.specs.Marks.{isCounterpart, counterpart, counterpartSlot, markOf, markIn}
 use Rattle.paper.specs.Acceptance.{touched, remarked}
-use Rattle.facts.specs.Layout.{with-mark-length, kind-with-mark, sender-with-mark, senders-slot-with-mark, pair-with-mark, quantities-with-mark, Alike, alike-refl, alike-mark}
-use Rattle.facts.specs.Pairs.{viewFound, map-view, Keeps, of-pair-kept, counterpart-kept}
+use Rattle.facts.specs.Layout.{with-mark-length, kind-with-mark, sender-with-mark, senders-slot-with-mark, key-with-mark, quantities-with-mark, Alike, alike-refl, alike-mark}
+use Rattle.facts.specs.Pairs.{viewFound, map-view, Keeps, ByKey, ofSlot, of-slot-kept, counterpart-kept}
+use Rattle.facts.specs.Keys.{key-trade}
 
 -- ---- what a mark leaves
 
@@ -54,8 +55,11 @@ module _ (n slot : ℕ) (l : List Block) where
   pub senders-slot-remarked : (b : Block) → sendersSlot (again b) ≡ sendersSlot b
   senders-slot-remarked b = split (touched slot l b) (λ t. rw (remarked-touched b t) (senders-slot-with-mark _ b)) (λ t. rw (remarked-untouched b t))
 
-  pub pair-remarked : (b : Block) → pair (again b) ≡ pair b
-  pair-remarked b = split (touched slot l b) (λ t. rw (remarked-touched b t) (pair-with-mark _ b)) (λ t. rw (remarked-untouched b t))
+  pub key-remarked : (b : Block) → key (again b) ≡ key b
+  key-remarked b = split (touched slot l b) (λ t. rw (remarked-touched b t) (key-with-mark _ b)) (λ t. rw (remarked-untouched b t))
+
+  pub trade-remarked : (b : Block) → trade (again b) ≡ trade b
+  trade-remarked b = key-trade (again b) b (key-remarked b)
 
   pub quantities-remarked : (b : Block) → quantities (again b) ≡ quantities b
   quantities-remarked b = split (touched slot l b) (λ t. rw (remarked-touched b t) (quantities-with-mark _ b (mark-in-length n l b)))
@@ -71,26 +75,26 @@ module _ (n slot : ℕ) (l : List Block) where
       (λ t. rw (remarked-untouched b t))
 
   pub remarked-keeps : Keeps again
-  remarked-keeps = record { series = series-remarked; slot = λ b t. senders-slot-remarked b; pairs = λ b t. pair-remarked b }
+  remarked-keeps = record { series = series-remarked; slot = λ b t. senders-slot-remarked b; keys = λ b t. key-remarked b }
 
   -- ---- searches of blocks that are marked anew find what they found
 
-  pub of-pair-found-remarked : (view : Block → Bytes) → ((b : Block) → view (remarked n slot l b) ≡ view b) → (r : List Block) (i : ℕ) (p : Bytes)
-      → viewFound view (isSeriesOfPair i p) (map (remarked n slot l) r) ≡ viewFound view (isSeriesOfPair i p) r
+  pub of-slot-found-remarked : (view : Block → Bytes) → ((b : Block) → view (remarked n slot l b) ≡ view b) → (r : List Block) (i : ℕ) (q : Block → Bool) → ByKey q
+      → viewFound view (ofSlot i q) (map (remarked n slot l) r) ≡ viewFound view (ofSlot i q) r
   unfolding viewFound
-  of-pair-found-remarked view v r i p =
-      ap (Option·map view) (find-map again (isSeriesOfPair i p) (isSeriesOfPair i p) (of-pair-kept again remarked-keeps i p) r) ∙ map-view view again v
-      (find (isSeriesOfPair i p) r)
+  of-slot-found-remarked view v r i q by =
+      ap (Option·map view) (find-map again (ofSlot i q) (ofSlot i q) (of-slot-kept again remarked-keeps i q by) r) ∙ map-view view again v
+      (find (ofSlot i q) r)
 
   pub mark-in-remarked-list : (r : List Block) (x : Block) → markIn n (map again r) x ≡ markIn n r x
   unfolding markIn counterpart counterpartSlot
   mark-in-remarked-list r x =
-      let p : Block → Bool = isCounterpart (sendersSlot x) (pair x) in
+      let p : Block → Bool = isCounterpart (sendersSlot x) (trade x) in
       ap₂ (λ (o : Option Bytes) (s : ℕ). markOf n (quantities x) o s)
-      (ap (Option·map quantities) (find-map again p p (counterpart-kept again remarked-keeps (sendersSlot x) (pair x)) r)
+      (ap (Option·map quantities) (find-map again p p (counterpart-kept again remarked-keeps (sendersSlot x) (trade x)) r)
       ∙ map-view quantities again quantities-remarked (find p r))
-      (place-map-each again p p (counterpart-kept again remarked-keeps (sendersSlot x) (pair x)) r)
+      (place-map-each again p p (counterpart-kept again remarked-keeps (sendersSlot x) (trade x)) r)
 
   pub mark-in-remarked : (r : List Block) (x : Block) → markIn n r (again x) ≡ markIn n r x
   unfolding markIn counterpart counterpartSlot
-  mark-in-remarked r x = rw (senders-slot-remarked x, pair-remarked x, quantities-remarked x)
+  mark-in-remarked r x = rw (senders-slot-remarked x, trade-remarked x, quantities-remarked x)

@@ -9,11 +9,12 @@ use Rattle.laws.specs.Lists.Search.{has-yes, has-no-place, has-no-all, all-has-
 use Rattle.laws.specs.Lists.Apart.{apart-place}
 use Rattle.laws.specs.Lists.Keep.{keep-agree}
 use Rattle.paper.specs.Layout.{Bytes, Block, sender, sendersSlot, pair, withSendersSlot}
-use Rattle.paper.specs.Book.{dayBlock, used, isSender, isSeries, numbered, isSenderBlockOf, slotOf, isSeriesOf, ownSeries}
+use Rattle.paper.specs.Book.{dayBlock, used, isSender, isSeries, isExternal, numbered, isSenderBlockOf, slotOf, isSeriesOf, ownSeries}
 use Rattle.paper.specs.Sound.{partiesOf, usedSound, sameSender}
 use Rattle.paper.specs.Rules.{isNew}
 use Rattle.paper.specs.Acceptance.{slotFor, senderKept, renewed, fresh, placed, remarked, usedAfter}
-use Rattle.facts.specs.Layout.{pair-with-senders-slot}
+use Rattle.facts.specs.Layout.{key-with-senders-slot}
+use Rattle.facts.specs.Keys.{key-pair, key-is-external}
 use Rattle.facts.specs.Book.{no-block-sender, series-kind, sender-block-eic, sender-block-yes, sender-block-no, sender-block-own, sender-block-series, series-of-series, series-of-slot, all-numbered}
 use Rattle.facts.specs.Sound.{Sound, used-series, series-owner}
 use Rattle.facts.specs.Renewal.{Shape, series-with-senders-slot, sender-kept-sender, sender-kept-is-sender, sender-kept-no-series, series-renewed, renewed-keeps, sender-block-renewed, adopted, by-fresh, by-origin}
@@ -81,7 +82,7 @@ pub record Owner (us : List Block) (x : Block) : Type 0 where
   pub eic : Bytes
   pub known : has (isSenderBlockOf eic) us ≡ true
   pub slot : slotOf us eic ≡ sendersSlot x
-  pub party : partiesOf eic (pair x) ≡ true
+  pub party : partiesOf (isExternal x) eic (pair x) ≡ true
 
 unfoldable pub Owned : List Block → Type 0
 Owned us = All (λ x. isSeries x ≡ true → Owner us x) us
@@ -131,95 +132,95 @@ own-series us w e = keep-agree (isSeriesOf (slotFor us e)) (isSeriesOf (slotOf u
 
 -- ---- the senders' slots after an acceptance
 
-pub fresh-new : (us : List Block) (h : Block) (series : List Block) → has (isSenderBlockOf (sender h)) us ≡ false
-    → fresh us h series ≡ senderKept h series ∷ map (withSendersSlot (slotFor us (sender h))) (keep (isNew (ownSeries us (sender h))) series)
+pub fresh-new : (ours : Bytes) (us : List Block) (h : Block) (series : List Block) → has (isSenderBlockOf (sender h)) us ≡ false
+    → fresh ours us h series ≡ senderKept ours h series ∷ map (withSendersSlot (slotFor us (sender h))) (keep (isNew (ownSeries us (sender h))) series)
 unfolding fresh
-fresh-new us h series e = rw e
+fresh-new ours us h series e = rw e
 
-module _ (us : List Block) (h : Block) (series : List Block) (c : Shape us h series) where
+module _ (ours : Bytes) (us : List Block) (h : Block) (series : List Block) (c : Shape us h series) where
   abbrev again : Block → Block
-  again = renewed (slotFor us (sender h)) h series
+  again = renewed ours (slotFor us (sender h)) h series
 
-  pub fresh-no-sender-block : (e : Bytes) → same (sender h) e ≡ false → has (isSenderBlockOf e) (fresh us h series) ≡ false
+  pub fresh-no-sender-block : (e : Bytes) → same (sender h) e ≡ false → has (isSenderBlockOf e) (fresh ours us h series) ≡ false
   fresh-no-sender-block e d =
-      all-has-no (isSenderBlockOf e) (fresh us h series)
-      (by-fresh us h series c (λ z. isSenderBlockOf e z ≡ false) (λ y. isSeries y ≡ true) (c .series-kind)
-      (λ t. sender-block-no e _ (rw (sender-kept-sender us h series c) d)) (λ y s n. sender-block-series e _ (series-with-senders-slot _ y ∙ s)))
+      all-has-no (isSenderBlockOf e) (fresh ours us h series)
+      (by-fresh ours us h series c (λ z. isSenderBlockOf e z ≡ false) (λ y. isSeries y ≡ true) (c .series-kind)
+      (λ t. sender-block-no e _ (rw (sender-kept-sender ours us h series c) d)) (λ y s n. sender-block-series e _ (series-with-senders-slot _ y ∙ s)))
 
   has-sender-block-renewed : (e : Bytes) → has (isSenderBlockOf e) (map again us) ≡ has (isSenderBlockOf e) us
-  has-sender-block-renewed e = has-map-each again (isSenderBlockOf e) (isSenderBlockOf e) (sender-block-renewed us h series c e) us
+  has-sender-block-renewed e = has-map-each again (isSenderBlockOf e) (isSenderBlockOf e) (sender-block-renewed ours us h series c e) us
 
   place-sender-block-renewed : (e : Bytes) → place (isSenderBlockOf e) (map again us) ≡ place (isSenderBlockOf e) us
-  place-sender-block-renewed e = place-map-each again (isSenderBlockOf e) (isSenderBlockOf e) (sender-block-renewed us h series c e) us
+  place-sender-block-renewed e = place-map-each again (isSenderBlockOf e) (isSenderBlockOf e) (sender-block-renewed ours us h series c e) us
 
-  slot-placed-own : slotOf (placed us h series) (sender h) ≡ slotFor us (sender h)
+  slot-placed-own : slotOf (placed ours us h series) (sender h) ≡ slotFor us (sender h)
   unfolding slotOf placed
   slot-placed-own = split (has (isSenderBlockOf (sender h)) us)
-      (λ k. place-append-first (isSenderBlockOf (sender h)) (map again us) (fresh us h series) (has-sender-block-renewed (sender h) ∙ k) ∙ place-sender-block-renewed
+      (λ k. place-append-first (isSenderBlockOf (sender h)) (map again us) (fresh ours us h series) (has-sender-block-renewed (sender h) ∙ k) ∙ place-sender-block-renewed
       (sender h) ∙ sym (slot-for-known us (sender h) k))
-      (λ k. ap (λ z. place (isSenderBlockOf (sender h)) (map again us ++ z)) (fresh-new us h series k)
-      ∙ place-append-second (isSenderBlockOf (sender h)) (map again us) (senderKept h series) _ (has-sender-block-renewed (sender h) ∙ k)
-      (sender-block-yes (sender h) _ (sender-kept-is-sender us h series c) (sender-kept-sender us h series c))
+      (λ k. ap (λ z. place (isSenderBlockOf (sender h)) (map again us ++ z)) (fresh-new ours us h series k)
+      ∙ place-append-second (isSenderBlockOf (sender h)) (map again us) (senderKept ours h series) _ (has-sender-block-renewed (sender h) ∙ k)
+      (sender-block-yes (sender h) _ (sender-kept-is-sender ours us h series c) (sender-kept-sender ours us h series c))
       ∙ ap suc (length-map us again) ∙ sym (slot-for-new us (sender h) k))
 
-  slot-placed-other : (e : Bytes) → same (sender h) e ≡ false → slotOf (placed us h series) e ≡ slotOf us e
+  slot-placed-other : (e : Bytes) → same (sender h) e ≡ false → slotOf (placed ours us h series) e ≡ slotOf us e
   unfolding slotOf placed
-  slot-placed-other e d = place-append-only (isSenderBlockOf e) (map again us) (fresh us h series) (fresh-no-sender-block e d) ∙ place-sender-block-renewed e
+  slot-placed-other e d = place-append-only (isSenderBlockOf e) (map again us) (fresh ours us h series) (fresh-no-sender-block e d) ∙ place-sender-block-renewed e
 
-  slot-after : (n : ℕ) (e : Bytes) → slotOf (usedAfter n us h series) e ≡ slotOf (placed us h series) e
+  slot-after : (n : ℕ) (e : Bytes) → slotOf (usedAfter n ours us h series) e ≡ slotOf (placed ours us h series) e
   unfolding slotOf usedAfter
-  slot-after n e = place-map-each (remarked n (slotFor us (sender h)) (placed us h series)) (isSenderBlockOf e) (isSenderBlockOf e)
-      (sender-block-remarked n (slotFor us (sender h)) (placed us h series) e) (placed us h series)
+  slot-after n e = place-map-each (remarked n (slotFor us (sender h)) (placed ours us h series)) (isSenderBlockOf e) (isSenderBlockOf e)
+      (sender-block-remarked n (slotFor us (sender h)) (placed ours us h series) e) (placed ours us h series)
 
-  pub slot-after-own : (n : ℕ) → slotOf (usedAfter n us h series) (sender h) ≡ slotFor us (sender h)
+  pub slot-after-own : (n : ℕ) → slotOf (usedAfter n ours us h series) (sender h) ≡ slotFor us (sender h)
   slot-after-own n = slot-after n (sender h) ∙ slot-placed-own
 
-  pub slot-after-other : (n : ℕ) (e : Bytes) → same (sender h) e ≡ false → slotOf (usedAfter n us h series) e ≡ slotOf us e
+  pub slot-after-other : (n : ℕ) (e : Bytes) → same (sender h) e ≡ false → slotOf (usedAfter n ours us h series) e ≡ slotOf us e
   slot-after-other n e d = slot-after n e ∙ slot-placed-other e d
 
   -- every series placed stands for a sender: a stored one for its own, whose slot stays, and the message's for the message's sender
-  has-sender-block-placed : (e : Bytes) → has (isSenderBlockOf e) us ≡ true → has (isSenderBlockOf e) (placed us h series) ≡ true
+  has-sender-block-placed : (e : Bytes) → has (isSenderBlockOf e) us ≡ true → has (isSenderBlockOf e) (placed ours us h series) ≡ true
   unfolding placed
-  has-sender-block-placed e k = has-append (isSenderBlockOf e) (map again us) (fresh us h series) ∙ or-yes-left _ _ (has-sender-block-renewed e ∙ k)
+  has-sender-block-placed e k = has-append (isSenderBlockOf e) (map again us) (fresh ours us h series) ∙ or-yes-left _ _ (has-sender-block-renewed e ∙ k)
 
-  slot-placed-known : (e : Bytes) → has (isSenderBlockOf e) us ≡ true → slotOf (placed us h series) e ≡ slotOf us e
+  slot-placed-known : (e : Bytes) → has (isSenderBlockOf e) us ≡ true → slotOf (placed ours us h series) e ≡ slotOf us e
   unfolding slotOf placed
-  slot-placed-known e k = place-append-first (isSenderBlockOf e) (map again us) (fresh us h series) (has-sender-block-renewed e ∙ k) ∙ place-sender-block-renewed e
+  slot-placed-known e k = place-append-first (isSenderBlockOf e) (map again us) (fresh ours us h series) (has-sender-block-renewed e ∙ k) ∙ place-sender-block-renewed e
 
-  sender-placed : has (isSenderBlockOf (sender h)) (placed us h series) ≡ true
-  sender-placed = split (has (isSenderBlockOf (sender h)) (placed us h series)) (λ u. u) (λ u.
-      let z : slotFor us (sender h) ≡ zero = sym slot-placed-own ∙ slot-of-none (placed us h series) (sender h) u in
+  sender-placed : has (isSenderBlockOf (sender h)) (placed ours us h series) ≡ true
+  sender-placed = split (has (isSenderBlockOf (sender h)) (placed ours us h series)) (λ u. u) (λ u.
+      let z : slotFor us (sender h) ≡ zero = sym slot-placed-own ∙ slot-of-none (placed ours us h series) (sender h) u in
       split (has (isSenderBlockOf (sender h)) us)
       (λ k. has-sender-block-placed (sender h) k)
       (λ k. absurd (omega (arith, slot-for-new us (sender h) k))))
 
-  pub owned-placed : Owned us → All (λ y. partiesOf (sender h) (pair y) ≡ true) series → Owned (placed us h series)
+  pub owned-placed : Owned us → All (λ y. partiesOf (isExternal y) (sender h) (pair y) ≡ true) series → Owned (placed ours us h series)
   unfolding Owned
   owned-placed w p =
-      by-origin us h series c (λ z. isSeries z ≡ true → Owner now z) (λ x. isSeries x ≡ true → Owner us x)
-      (λ y. (length y ≡ 512) × (partiesOf (sender h) (pair y) ≡ true)) w
-      (all-both (λ y. length y ≡ 512) (λ y. partiesOf (sender h) (pair y) ≡ true) series (c .series-whole) p)
-      old (λ s. clash s (sender-kept-no-series us h series c)) young
+      by-origin ours us h series c (λ z. isSeries z ≡ true → Owner now z) (λ x. isSeries x ≡ true → Owner us x)
+      (λ y. (length y ≡ 512) × (partiesOf (isExternal y) (sender h) (pair y) ≡ true)) w
+      (all-both (λ y. length y ≡ 512) (λ y. partiesOf (isExternal y) (sender h) (pair y) ≡ true) series (c .series-whole) p)
+      old (λ s. clash s (sender-kept-no-series ours us h series c)) young
     where
       now : List Block
-      now = placed us h series
+      now = placed ours us h series
 
       old : (x : Block) → (isSeries x ≡ true → Owner us x) → isSeries (again x) ≡ true → Owner now (again x)
       old x f t =
-          let s : isSeries x ≡ true = sym (series-renewed us h series c x) ∙ t in
+          let s : isSeries x ≡ true = sym (series-renewed ours us h series c x) ∙ t in
           let o : Owner us x = f s in
           record {
             eic = o .eic;
             known = has-sender-block-placed (o .eic) (o .known);
-            slot = slot-placed-known (o .eic) (o .known) ∙ o .slot ∙ sym (renewed-keeps us h series c .slot x s);
-            party = rw (renewed-keeps us h series c .pairs x s) (o .party);
+            slot = slot-placed-known (o .eic) (o .known) ∙ o .slot ∙ sym (renewed-keeps ours us h series c .slot x s);
+            party = rw (key-pair _ x (renewed-keeps ours us h series c .keys x s), key-is-external _ x (renewed-keeps ours us h series c .keys x s)) (o .party);
           }
 
-      young : (y : Block) → (length y ≡ 512) × (partiesOf (sender h) (pair y) ≡ true) → isSeries (withSendersSlot (slotFor us (sender h)) y) ≡ true
+      young : (y : Block) → (length y ≡ 512) × (partiesOf (isExternal y) (sender h) (pair y) ≡ true) → isSeries (withSendersSlot (slotFor us (sender h)) y) ≡ true
           → Owner now (withSendersSlot (slotFor us (sender h)) y)
       young y q s = record {
         eic = sender h;
         known = sender-placed;
-        slot = slot-placed-own ∙ sym (adopted us h series c y (q .0));
-        party = rw (pair-with-senders-slot (slotFor us (sender h)) y) (q .1);
+        slot = slot-placed-own ∙ sym (adopted ours us h series c y (q .0));
+        party = rw (key-pair _ y (key-with-senders-slot (slotFor us (sender h)) y), key-is-external _ y (key-with-senders-slot (slotFor us (sender h)) y)) (q .1);
       }

@@ -6,11 +6,11 @@ use Rattle.laws.specs.Lists.{apart, All}
 use Rattle.laws.specs.Lists.Each.{every-all, all-every}
 use Rattle.laws.specs.Lists.Keep.{until-length}
 use Rattle.paper.specs.Check.{checkRight}
-use Rattle.paper.specs.Layout.{Bytes, Block, blocks, nOf, sender, sendersSlot, pair, differing}
+use Rattle.paper.specs.Layout.{Bytes, Block, blocks, nOf, sender, sendersSlot, pair, differing, area}
 use Rattle.paper.specs.Ranges.{wholeBlocks, nAllowed}
-use Rattle.paper.specs.Book.{dayBlock, slots, isFree, used, isSender, isSeries, numbered}
-use Rattle.paper.specs.Sound.{dayFields, daySound, usedFirst, senderSound, partiesOf, ownerSound, seriesSound, usedSound, sameSender, sameSeries, differingSound, soundOver, differingAllowed, sound}
-use Rattle.facts.specs.Book.{series-not-sender, slots-length}
+use Rattle.paper.specs.Book.{dayBlock, slots, isFree, used, isSender, isSeries, isRight, isExternal, numbered}
+use Rattle.paper.specs.Sound.{dayFields, daySound, usedFirst, senderSound, partiesOf, ownerSound, areasAllowed, typeAllowed, capacityAllowed, seriesFields, seriesCodes, seriesSound, rightSound, usedSound, sameSender, sameSeries, sameRight, differingSound, soundOver, differingAllowed, sound}
+use Rattle.facts.specs.Book.{series-not-sender, right-not-sender, series-not-right, slots-length}
 
 -- ---- the book
 
@@ -24,12 +24,14 @@ pub record Sound (book : Bytes) : Type 0 where
   pub each : All (λ x. usedSound (dayBlock book) (used book) x ≡ true) (used book)
   pub senders : apart sameSender (used book) ≡ true
   pub series : apart sameSeries (used book) ≡ true
+  pub rights : apart sameRight (used book) ≡ true
   pub counts : All (λ x. differingSound differingAllowed (nOf (dayBlock book)) x ≡ true) (used book)
 
 pub sound-says : (book : Bytes) → sound book ≡ true → Sound book
 unfolding sound soundOver wholeBlocks usedFirst
 sound-says book s =
-    let s0 = and-left _ _ s in
+    let r = and-left _ _ s in
+    let s0 = and-left _ _ r in
     let s1 = and-left _ _ s0 in
     let s2 = and-left _ _ s1 in
     let s3 = and-left _ _ s2 in
@@ -46,6 +48,7 @@ sound-says book s =
       each = every-all _ _ (and-right _ _ s2);
       senders = and-right _ _ s1;
       series = and-right _ _ s0;
+      rights = and-right _ _ r;
       counts = every-all _ _ (and-right _ _ s);
     }
 
@@ -58,8 +61,9 @@ is-sound book s =
     (and-both _ _
     (and-both _ _
     (and-both _ _
+    (and-both _ _
     (and-both _ _ (and-both _ _ (and-both _ _ (is-equal _ _ (s .whole)) (upto-true _ _ (s .least))) (upto-true _ _ (s .most))) (all-every _ _ (s .checks)))
-    (s .day)) (all-every _ _ (s .free))) (all-every _ _ (s .each))) (s .senders)) (s .series)) (all-every _ _ (s .counts))
+    (s .day)) (all-every _ _ (s .free))) (all-every _ _ (s .each))) (s .senders)) (s .series)) (s .rights)) (all-every _ _ (s .counts))
 
 module _ (book : Bytes) (s : Sound book) where
   pub book-least : 1024 ≤ length book
@@ -97,7 +101,7 @@ n-large n e =
 pub day-n-least : (d : Block) → daySound d ≡ true → 92 ≤ nOf d
 day-n-least d e = n-large _ (n-allowed d e)
 
--- ---- a used slot: a sound sender or a sound series
+-- ---- a used slot: a sound sender, a sound right or a sound series
 
 module _ (d : Block) (us : List Block) (x : Block) (q : usedSound d us x ≡ true) where
   pub used-sender : isSender x ≡ true → senderSound d us x ≡ true
@@ -106,20 +110,40 @@ module _ (d : Block) (us : List Block) (x : Block) (q : usedSound d us x ≡ tru
 
   pub used-series : isSeries x ≡ true → seriesSound d us x ≡ true
   unfolding usedSound
-  used-series t = and-right _ _ (rw (series-not-sender x t) at q)
+  used-series t = and-right _ _ (rw (series-not-sender x t, series-not-right x t) at q)
 
-  pub used-other : isSender x ≡ false → isSeries x ≡ true
+  pub used-right : isRight x ≡ true → rightSound d x ≡ true
   unfolding usedSound
-  used-other t = and-left _ _ (rw t at q)
+  used-right t = rw (right-not-sender x t, t) at q
 
-  pub used-kind : (isSender x or isSeries x) ≡ true
-  used-kind = split (isSender x) (λ t. or-yes-left _ _ t) (λ t. or-yes-right _ _ (used-other t))
+  pub used-other : isSender x ≡ false → isRight x ≡ false → isSeries x ≡ true
+  unfolding usedSound
+  used-other t u = and-left _ _ (rw (t, u) at q)
+
+  pub used-kind : (isSender x or isSeries x or isRight x) ≡ true
+  used-kind = split (isSender x)
+      (λ t. or-yes-left _ _ (or-yes-left _ _ t))
+      (λ t. split (isRight x) (λ u. or-yes-right _ _ u) (λ u. or-yes-left _ _ (or-yes-right _ _ (used-other t u))))
 
 -- the sender that a series names, and its part in the trade
 pub series-owner : (d : Block) (us : List Block) (x : Block) → seriesSound d us x ≡ true
-    → (isSender (numbered us (sendersSlot x)) ≡ true) × (partiesOf (sender (numbered us (sendersSlot x))) (pair x) ≡ true)
+    → (isSender (numbered us (sendersSlot x)) ≡ true) × (partiesOf (isExternal x) (sender (numbered us (sendersSlot x))) (pair x) ≡ true)
 unfolding seriesSound ownerSound
 series-owner d us x e = let o = and-right _ _ (and-left _ _ e) in (and-left _ _ o, and-right _ _ o)
+
+-- its areas, its type and its capacity fields
+module _ (d : Block) (us : List Block) (x : Block) (e : seriesSound d us x ≡ true) where
+  pub series-areas : areasAllowed (area d) x ≡ true
+  unfolding seriesSound seriesCodes
+  series-areas = and-left _ _ (and-left _ _ (and-right _ _ (and-left _ _ (and-left _ _ (and-left _ _ e)))))
+
+  pub series-type : typeAllowed x ≡ true
+  unfolding seriesSound seriesFields
+  series-type = and-right _ _ (and-left _ _ (and-left _ _ (and-left _ _ (and-left _ _ (and-left _ _ (and-left _ _ e))))))
+
+  pub series-capacity : capacityAllowed x ≡ true
+  unfolding seriesSound seriesFields
+  series-capacity = and-right _ _ (and-left _ _ (and-left _ _ (and-left _ _ (and-left _ _ (and-left _ _ e)))))
 
 -- the count of a series' mark
 module _ (n : ℕ) (x : Block) where

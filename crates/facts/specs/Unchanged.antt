@@ -36,14 +36,14 @@ module _ (b : Block) (whole : length b ≡ 512) (bytes : All (λ x. x < 256) b) 
   with-nets-same = ap sealed (written-part 108 400 b (omega arith)) ∙ sealed-same
 
   -- and whose mark or nets are true
-  pub converted-same : (n : ℕ) (us : List Block) → (isSender b ≡ true → nets b ≡ netsOf (sender b) (ownSeries us (sender b)))
-      → (isSeries b ≡ true → mark b ≡ markIn n us b) → convertedBlock n us b ≡ b
-  converted-same n us v m = by-converted n us (λ z. z ≡ b) b (λ t. ap (λ z. withNets z b) (sym (v t)) ∙ with-nets-same)
+  pub converted-same : (n : ℕ) (ours : Bytes) (us : List Block) → (isSender b ≡ true → nets b ≡ netsOf ours (sender b) (ownSeries us (sender b)))
+      → (isSeries b ≡ true → mark b ≡ markIn n us b) → convertedBlock n ours us b ≡ b
+  converted-same n ours us v m = by-converted n ours us (λ z. z ≡ b) b (λ t. ap (λ z. withNets z b) (sym (v t)) ∙ with-nets-same)
       (λ t. ap (λ z. withMark z b) (sym (m t)) ∙ with-mark-same) refl
 
-pub used-converted-same : (n : ℕ) (us : List Block) → All (λ x. convertedBlock n us x ≡ x) us → usedConverted n us ≡ us
+pub used-converted-same : (n : ℕ) (ours : Bytes) (us : List Block) → All (λ x. convertedBlock n ours us x ≡ x) us → usedConverted n ours us ≡ us
 unfolding usedConverted
-used-converted-same n us h = map-same (convertedBlock n us) us h
+used-converted-same n ours us h = map-same (convertedBlock n ours us) us h
 
 -- ---- a book
 

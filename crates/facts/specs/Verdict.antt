@@ -9,14 +9,14 @@ use Rattle.laws.specs.Bytes.{number}
 use Rattle.laws.specs.Cut.Laws.{cut-length, cut-widths}
 use Rattle.laws.specs.Order.Laws.{first-left, first-right, along-all}
 use Rattle.paper.specs.declared.Verdict.{Verdict}
-use Rattle.paper.specs.Layout.{Bytes, Block, zeros, nOf, dayOfBook, area, receiver, version, idOf, seriesCount, sender, dayOfMessage, businessType, contractType, sendersSlot, inArea, outArea, inParty, outParty, pair, agreement, quantity, senderZerosInMessage, seriesZerosInMessage}
+use Rattle.paper.specs.Layout.{Bytes, Block, nOf, dayOfBook, area, receiver, version, idOf, seriesCount, sender, dayOfMessage, sendersSlot, inParty, outParty, pair, key, quantity, limit, senderZerosInMessage, seriesZerosInMessage}
 use Rattle.paper.specs.Ranges.{wholeBlocks, versionAllowed}
 use Rattle.paper.specs.Ids.{idWellFormed}
 use Rattle.paper.specs.Eic.{eicNumber, eicValid}
-use Rattle.paper.specs.Book.{dayBlock, used, freeSlots, isSender, isSeries, idIs, pairIs, isSeriesOf, ownSender, ownSeries}
-use Rattle.paper.specs.Sound.{partiesOf, sound}
+use Rattle.paper.specs.Book.{dayBlock, used, freeSlots, isSender, isSeries, withCapacity, isExternal, idIs, keyIs, isSeriesOf, ownSender, ownSeries, ownRights}
+use Rattle.paper.specs.Sound.{partiesOf, areasAllowed, typeAllowed, capacityAllowed, sound}
 use Rattle.paper.specs.Message.{headOf, seriesOf, headRight, seriesRight, messageRight, rule2}
-use Rattle.paper.specs.Rules.{fine, numberOf, _then_, broken, brokenBy, overPositions, rule1, rule3, rule4, rule5, idOrVersionBroken, rule6, withOtherPair, withOtherId, rule7, rule8, wrongCharacter, rule9, rule10, rule12, rule13, storedOf, closed, rule14, seriesVersion, rule15, absent, rule16, newBlocks, rule17, headVerdict, formVerdict, quantityVerdict, closedVerdict, valuesVerdict, seriesVerdict, eachSeries, lastVerdict, judge, verdict}
+use Rattle.paper.specs.Rules.{fine, numberOf, _then_, broken, brokenBy, overPositions, rule1, rule3, rule4, rule5, idOrVersionBroken, rule6, withOtherKey, withOtherId, rule7, rule8, wrongCharacter, rule9, rule10, rule12, rule13, names, rule18, rightFor, sumOn, rule19, storedOf, closed, rule14, seriesVersion, rule15, absent, rule16, newBlocks, rule17, headVerdict, formVerdict, quantityVerdict, closedVerdict, limitVerdict, rightVerdict, lateVerdict, valuesVerdict, seriesVerdict, eachSeries, lastVerdict, judge, verdict}
 use Rattle.facts.specs.Layout.{value-zeros}
 use Rattle.facts.specs.Book.{series-of-yes}
 use Rattle.facts.specs.Sound.{Sound, sound-says}
@@ -102,42 +102,51 @@ series-some-few message m =
 
 -- ---- one series y of a message that rules 7 to 15 let through: d is the day block, own the sender's stored series, h the message's first block
 
--- x has both the id and the pair of y, or neither
+-- x has both the id and the key of y, or neither
 abbrev pub Straight : Block → Block → Type 0
-Straight y x = idIs (idOf y) x ≡ pairIs (pair y) x
+Straight y x = idIs (idOf y) x ≡ keyIs (key y) x
 
 pub record Line (d : Block) (own : List Block) (h y : Block) : Type 0 where
   pub id-formed : idWellFormed (idOf y) ≡ true
   pub straight : All (Straight y) own
   pub in-valid : eicValid (inParty y) ≡ true
   pub out-valid : eicValid (outParty y) ≡ true
-  pub parties : partiesOf (sender h) (pair y) ≡ true
-  pub in-area : same (inArea y) (area d) ≡ true
-  pub out-area : same (outArea y) (area d) ≡ true
-  pub business : is (businessType y) 2 ≡ true
-  pub contract : is (contractType y) 0 ≡ true
-  pub no-agreement : zeros (agreement y) ≡ true
+  pub parties : partiesOf (isExternal y) (sender h) (pair y) ≡ true
+  pub areas : areasAllowed (area d) y ≡ true
+  pub type-allowed : typeAllowed y ≡ true
+  pub capacity : capacityAllowed y ≡ true
   pub small : (k : ℕ) → k < 100 → k < nOf d → quantity y k ≤ 9999999
   pub above : (k : ℕ) → k < 100 → nOf d ≤ k → quantity y k ≡ 0
   pub unchanged : (k : ℕ) → k < 100 → closed d (k + 1) ≡ true → quantity y k ≡ quantity (storedOf own y) k
   pub version-is : version y ≡ seriesVersion (storedOf own y) h y
 
--- one id or one pair: x earlier in the message, or stored
-unfoldable pub sameIdOrPair : Block → Block → Bool
-sameIdOrPair x y = same (idOf x) (idOf y) or same (pair x) (pair y)
+-- one id or one key: x earlier in the message, or stored
+unfoldable pub sameIdOrKey : Block → Block → Bool
+sameIdOrKey x y = same (idOf x) (idOf y) or same (key x) (key y)
+
+-- a series on a right: the sender holds it, and with the earlier ones of the message the sums stay at or below its limit
+unfoldable pub Limited : (n : ℕ) (rights seen : List Block) (y : Block) → Type 0
+Limited n rights seen y =
+    withCapacity y ≡ true
+    → (has (names y) rights ≡ true) × ((k : ℕ) → k < 100 → k < n → sumOn (rightFor rights y) seen k + quantity y k ≤ limit (rightFor rights y) k)
+
+-- each of l, with those seen before it
+unfoldable pub AllLimited : (n : ℕ) (rights seen l : List Block) → Type 0
+AllLimited n rights seen [] = Unit {0}
+AllLimited n rights seen (y ∷ ys) = Limited n rights seen y × AllLimited n rights (seen ++ y ∷ []) ys
 
 both-or-neither : (a b : Bool) → (a and neg b) ≡ false → (b and neg a) ≡ false → a ≡ b
 both-or-neither a b e f = split a
     (λ t. t ∙ sym (neg-no _ (and-no _ _ e t)))
     (λ t. t ∙ sym (split b (λ u. clash (neg-true _ t) (and-no _ _ f u)) (λ u. u)))
 
-module _ (d : Block) (own : List Block) (h : Block) where
-  module _ (seen : List Block) (s : ℕ) (y : Block) (e : Passed (seriesVerdict d own h seen s y)) where
+module _ (d : Block) (own rights : List Block) (h : Block) where
+  module _ (seen : List Block) (s : ℕ) (y : Block) (e : Passed (seriesVerdict d own rights h seen s y)) where
     form : Passed (formVerdict d own h seen s y)
     unfolding seriesVerdict
     form = then-left _ _ e
 
-    values : Passed (valuesVerdict d (storedOf own y) h s y)
+    values : Passed (valuesVerdict d (storedOf own y) rights h seen s y)
     unfolding seriesVerdict
     values = then-right _ _ e
 
@@ -146,39 +155,37 @@ module _ (d : Block) (own : List Block) (h : Block) where
     r7 = passed _ 6 s 0 (then-left _ _ form)
 
     line-straight : All (Straight y) own
-    unfolding rule7 withOtherPair withOtherId
+    unfolding rule7 withOtherKey withOtherId
     line-straight =
-        all-imply (λ x. (withOtherPair y x ≡ false) × (withOtherId y x ≡ false)) (Straight y) (λ x q. both-or-neither _ _ (q .0) (q .1)) own
-        (all-both (λ x. withOtherPair y x ≡ false) (λ x. withOtherId y x ≡ false) own (has-no-all _ own (or-right _ _ (or-left _ _ (or-left _ _ r7))))
+        all-imply (λ x. (withOtherKey y x ≡ false) × (withOtherId y x ≡ false)) (Straight y) (λ x q. both-or-neither _ _ (q .0) (q .1)) own
+        (all-both (λ x. withOtherKey y x ≡ false) (λ x. withOtherId y x ≡ false) own (has-no-all _ own (or-right _ _ (or-left _ _ (or-left _ _ r7))))
         (has-no-all _ own (or-right _ _ r7)))
 
-    line-unseen : All (λ x. sameIdOrPair x y ≡ false) seen
-    unfolding rule7 sameIdOrPair idIs pairIs
+    line-unseen : All (λ x. sameIdOrKey x y ≡ false) seen
+    unfolding rule7 sameIdOrKey idIs keyIs
     line-unseen =
-        all-imply (λ x. (idIs (idOf y) x ≡ false) × (pairIs (pair y) x ≡ false)) (λ x. sameIdOrPair x y ≡ false) (λ x q. or-no _ _ (q .0) (q .1)) seen
-        (all-both (λ x. idIs (idOf y) x ≡ false) (λ x. pairIs (pair y) x ≡ false) seen
+        all-imply (λ x. (idIs (idOf y) x ≡ false) × (keyIs (key y) x ≡ false)) (λ x. sameIdOrKey x y ≡ false) (λ x q. or-no _ _ (q .0) (q .1)) seen
+        (all-both (λ x. idIs (idOf y) x ≡ false) (λ x. keyIs (key y) x ≡ false) seen
         (has-no-all _ seen (or-right _ _ (or-left _ _ (or-left _ _ (or-left _ _ r7))))) (has-no-all _ seen (or-right _ _ (or-left _ _ r7))))
 
     line : Line d own h y
-    unfolding formVerdict valuesVerdict rule7 rule8 rule9 rule10 quantityVerdict rule12 rule13 closedVerdict rule14 rule15
+    unfolding formVerdict valuesVerdict lateVerdict rule7 rule8 rule9 rule10 quantityVerdict rule12 rule13 closedVerdict rule14 rule15
     line =
         let f2 = then-right _ _ form in
         let f3 = then-right _ _ f2 in
         let r8 = passed-by _ 7 s (wrongCharacter y) (then-left _ _ f2) in
         let r9 = passed _ 8 s 0 (then-left _ _ f3) in
         let r10 = passed _ 9 s 0 (then-right _ _ f3) in
-        let v2 = then-right _ _ values in
+        let v2 = then-right _ _ (then-right _ _ values) in
         record {
           id-formed = neg-no _ (or-left _ _ (or-left _ _ (or-left _ _ (or-left _ _ r7))));
           straight = line-straight;
           in-valid = neg-no _ (or-left _ _ (or-left _ _ r8));
           out-valid = neg-no _ (or-right _ _ (or-left _ _ r8));
           parties = neg-no _ (or-right _ _ r8);
-          in-area = neg-no _ (or-left _ _ r9);
-          out-area = neg-no _ (or-right _ _ r9);
-          business = neg-no _ (or-left _ _ (or-left _ _ r10));
-          contract = neg-no _ (or-right _ _ (or-left _ _ r10));
-          no-agreement = neg-no _ (or-right _ _ r10);
+          areas = neg-no _ r9;
+          type-allowed = neg-no _ (or-left _ _ r10);
+          capacity = neg-no _ (or-right _ _ r10);
           small = λ k l f. less-no _ _ (and-no _ _ (passed _ 11 s (k + 1) (then-left _ _ (then-right _ _ (each-position _ (then-left _ _ values) k l))))
               (less-true k (nOf d) f));
           above = λ k l f. is-yes _ _ (neg-no _ (and-no _ _ (passed _ 12 s (k + 1) (then-right _ _ (then-right _ _ (each-position _ (then-left _ _ values) k l))))
@@ -187,27 +194,41 @@ module _ (d : Block) (own : List Block) (h : Block) where
           version-is = is-yes _ _ (neg-no _ (passed _ 14 s 0 (then-right _ _ v2)));
         }
 
-  lines : (seen : List Block) (s : ℕ) (l : List Block) → Passed (eachSeries d own h seen s l) → All (Line d own h) l
+  -- what rules 18 and 19 say of y: a right that the sender holds, and sums with the earlier series on it at or below its limit
+  pub line-limited : (seen : List Block) (s : ℕ) (y : Block) → Passed (seriesVerdict d own rights h seen s y) → Limited (nOf d) rights seen y
+  unfolding Limited valuesVerdict rightVerdict limitVerdict rule18 rule19
+  line-limited seen s y e t =
+      let r = then-left _ _ (then-right _ _ (values seen s y e)) in (
+        neg-no _ (and-no _ _ (passed _ 17 s 0 (then-left _ _ r)) t),
+        λ k l f. less-no _ _ (and-no _ _ (passed _ 18 s (k + 1) (each-position _ (then-right _ _ r) k l)) (and-both _ _ t (less-true k (nOf d) f))),
+      )
+
+  limits : (seen : List Block) (s : ℕ) (l : List Block) → Passed (eachSeries d own rights h seen s l) → AllLimited (nOf d) rights seen l
+  unfolding eachSeries AllLimited
+  limits seen s [] e = tt
+  limits seen s (y ∷ ys) e = (line-limited seen s y (then-left _ _ e), limits (seen ++ y ∷ []) (s + 1) ys (then-right _ _ e))
+
+  lines : (seen : List Block) (s : ℕ) (l : List Block) → Passed (eachSeries d own rights h seen s l) → All (Line d own h) l
   unfolding eachSeries
   lines seen s [] e = tt
   lines seen s (y ∷ ys) e = (line seen s y (then-left _ _ e), lines (seen ++ y ∷ []) (s + 1) ys (then-right _ _ e))
 
-  unseen : (seen : List Block) (s : ℕ) (l : List Block) → Passed (eachSeries d own h seen s l) → All (λ y. All (λ x. sameIdOrPair x y ≡ false) seen) l
+  unseen : (seen : List Block) (s : ℕ) (l : List Block) → Passed (eachSeries d own rights h seen s l) → All (λ y. All (λ x. sameIdOrKey x y ≡ false) seen) l
   unfolding eachSeries
   unseen seen s [] e = tt
   unseen seen s (y ∷ ys) e = (
     line-unseen seen s y (then-left _ _ e),
-    all-imply (λ z. All (λ x. sameIdOrPair x z ≡ false) (seen ++ y ∷ [])) _ (λ z q. all-append-left (λ x. sameIdOrPair x z ≡ false) seen (y ∷ []) q) ys
+    all-imply (λ z. All (λ x. sameIdOrKey x z ≡ false) (seen ++ y ∷ [])) _ (λ z q. all-append-left (λ x. sameIdOrKey x z ≡ false) seen (y ∷ []) q) ys
         (unseen (seen ++ y ∷ []) (s + 1) ys (then-right _ _ e)),
   )
 
-  distinct : (seen : List Block) (s : ℕ) (l : List Block) → Passed (eachSeries d own h seen s l) → apart sameIdOrPair l ≡ true
+  distinct : (seen : List Block) (s : ℕ) (l : List Block) → Passed (eachSeries d own rights h seen s l) → apart sameIdOrKey l ≡ true
   unfolding eachSeries apart
   distinct seen s [] e = refl
   distinct seen s (y ∷ ys) e =
       and-both _ _
-      (all-every _ ys (all-imply (λ z. All (λ x. sameIdOrPair x z ≡ false) (seen ++ y ∷ [])) (λ z. neg (sameIdOrPair y z) ≡ true)
-      (λ z q. neg-true _ (all-append-right (λ x. sameIdOrPair x z ≡ false) seen (y ∷ []) q .0)) ys (unseen (seen ++ y ∷ []) (s + 1) ys (then-right _ _ e))))
+      (all-every _ ys (all-imply (λ z. All (λ x. sameIdOrKey x z ≡ false) (seen ++ y ∷ [])) (λ z. neg (sameIdOrKey y z) ≡ true)
+      (λ z q. neg-true _ (all-append-right (λ x. sameIdOrKey x z ≡ false) seen (y ∷ []) q .0)) ys (unseen (seen ++ y ∷ []) (s + 1) ys (then-right _ _ e))))
       (distinct (seen ++ y ∷ []) (s + 1) ys (then-right _ _ e))
 
 -- ---- an accepted message
@@ -222,8 +243,9 @@ pub record Accepts (book message : Bytes) : Type 0 where
   pub id-formed : idWellFormed (idOf (headOf message)) ≡ true
   pub version-allowed : versionAllowed (version (headOf message)) ≡ true
   pub each : All (Line (dayBlock book) (ownSeries (used book) (sender (headOf message))) (headOf message)) (seriesOf message)
-  pub distinct-all : apart sameIdOrPair (seriesOf message) ≡ true
-  pub present : All (λ x. has (pairIs (pair x)) (seriesOf message) ≡ true) (ownSeries (used book) (sender (headOf message)))
+  pub distinct-all : apart sameIdOrKey (seriesOf message) ≡ true
+  pub present : All (λ x. has (keyIs (key x)) (seriesOf message) ≡ true) (ownSeries (used book) (sender (headOf message)))
+  pub limited : AllLimited (nOf (dayBlock book)) (ownRights (used book) (sender (headOf message))) [] (seriesOf message)
   pub fits : newBlocks (ownSender (used book) (sender (headOf message))) (ownSeries (used book) (sender (headOf message))) (seriesOf message) ≤ freeSlots book
 
 version-inside : (stored h : Block) → idOrVersionBroken stored h ≡ false → versionAllowed (version h) ≡ true
@@ -264,9 +286,10 @@ accepts book message e =
       n-is = is-yes _ _ (neg-no _ (or-right _ _ r5));
       id-formed = neg-no _ (or-left _ _ r6);
       version-allowed = version-inside _ _ (or-right _ _ r6);
-      each = lines _ _ _ [] 1 (seriesOf message) (then-left _ _ j7);
-      distinct-all = distinct _ _ _ [] 1 (seriesOf message) (then-left _ _ j7);
-      present = all-imply (λ x. neg (has (pairIs (pair x)) (seriesOf message)) ≡ false) (λ x. has (pairIs (pair x)) (seriesOf message) ≡ true) (λ x q. neg-no _ q)
+      each = lines _ _ (ownRights (used book) (sender (headOf message))) _ [] 1 (seriesOf message) (then-left _ _ j7);
+      distinct-all = distinct _ _ (ownRights (used book) (sender (headOf message))) _ [] 1 (seriesOf message) (then-left _ _ j7);
+      present = all-imply (λ x. neg (has (keyIs (key x)) (seriesOf message)) ≡ false) (λ x. has (keyIs (key x)) (seriesOf message) ≡ true) (λ x q. neg-no _ q)
           (ownSeries (used book) (sender (headOf message))) (has-no-all _ _ (passed _ 15 0 0 (then-left _ _ j16)));
+      limited = limits _ _ (ownRights (used book) (sender (headOf message))) _ [] 1 (seriesOf message) (then-left _ _ j7);
       fits = less-no _ _ (passed _ 16 0 0 (then-right _ _ j16));
     }

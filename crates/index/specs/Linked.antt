@@ -6,27 +6,35 @@ use mathlib.Core.List.{List, []}
 use Prim.Native.Nat.{ℕ, _+_, _≤_, _<_, _/_}
 use lib.ListN.{length, drop, getD}
 use Rattle.laws.specs.Tests.{_and_, is}
-use Rattle.laws.specs.Lists.{same, place}
+use Rattle.laws.specs.Lists.{place}
+use Rattle.laws.specs.Bytes.{part}
 use Rattle.laws.specs.Loops.{placeFrom}
-use Rattle.paper.specs.Layout.{Bytes, Block, idOf, pair}
-use Rattle.paper.specs.Book.{isSeries, isSeriesOf}
+use Rattle.paper.specs.Layout.{Bytes, Block, idOf, pair, key}
+use Rattle.paper.specs.Book.{isSeries, isSeriesOf, idIs, keyIs, trade, tradeIs}
 use Rattle.index.specs.declared.By.{By}
-use Rattle.index.specs.declared.By.the-variants.{Id, Pair}
-use Rattle.index.specs.Tags.{pairTagOf}
+use Rattle.index.specs.declared.By.the-variants.{Id, Key, Trade}
+use Rattle.index.specs.Tags.{keyTagOf}
 
 -- one of 1,024, by the upper bits of the tag: blocks with the same bytes share it, and few others
 unfoldable pub bucket : Bytes → ℕ
-bucket v = pairTagOf v / 4194304
+bucket v = keyTagOf v / 4194304
 
--- what a series is sought by
-unfoldable pub keyOf : By → Block → Bytes
-keyOf Id x = idOf x
-keyOf Pair x = pair x
+-- the bytes that a series' bucket is made of. Those of a key are its parties and its agreement: what else a key has, most series have in common
+unfoldable pub hashed : By → Block → Bytes
+hashed Id x = idOf x
+hashed Key x = part 56 48 x
+hashed Trade x = pair x
+
+-- x has what y is sought by
+unfoldable pub alike : By → Block → Block → Bool
+alike Id y x = idIs (idOf y) x
+alike Key y x = keyIs (key y) x
+alike Trade y x = tradeIs (trade y) x
 
 -- ---- which blocks are linked, and in which bucket
 
 unfoldable pub ownIn : ℕ → By → ℕ → Block → Bool
-ownIn slot by g x = isSeriesOf slot x and is (bucket (keyOf by x)) g
+ownIn slot by g x = isSeriesOf slot x and is (bucket (hashed by x)) g
 
 unfoldable pub seriesIn : ℕ → Block → Bool
 seriesIn g x = isSeries x and is (bucket (pair x)) g
@@ -50,11 +58,14 @@ module _ (p : ℕ → Block → Bool) (l : List Block) where
 
 -- ---- what is sought
 
--- x is a series of the sender in a slot, and has a key
-unfoldable pub ownWith : ℕ → By → Bytes → Block → Bool
-ownWith slot by v x = isSeriesOf slot x and same (keyOf by x) v
+-- x is a series of the sender in a slot, and has what y is sought by
+unfoldable pub ownWith : ℕ → By → Block → Block → Bool
+ownWith slot by y x = isSeriesOf slot x and alike by y x
 
--- of each of some blocks the place, in l, of the sender's first series with the same key
-pub record Found (slot : ℕ) (by : By) (l of : List Block) (found : List ℕ) : Type 0 where
-  pub each : (k : ℕ) → k < length of → getD found k 0 ≡ place (ownWith slot by (keyOf by (getD of k []))) l
+-- of each block y of some the place, in l, of the first x that passes sought y x
+pub record FoundBy (sought : Block → Block → Bool) (l of : List Block) (found : List ℕ) : Type 0 where
+  pub each : (k : ℕ) → k < length of → getD found k 0 ≡ place (sought (getD of k [])) l
   pub room : length found ≡ 1000
+
+abbrev pub Found : (slot : ℕ) (by : By) (l of : List Block) (found : List ℕ) → Type 0
+Found slot by l of found = FoundBy (ownWith slot by) l of found

@@ -16,3 +16,7 @@ tagOf s = cond (less (length s) 16) 0 (mixed (mixed (mixed (number 4 0 s) (numbe
 -- of a pair of parties, or of a single field, behind which there is nothing
 unfoldable pub pairTagOf : Bytes → ℕ
 pairTagOf p = mixed (tagOf (part 0 16 p)) (tagOf (part 16 16 p))
+
+-- of a pair and an agreement, or of fewer fields
+unfoldable pub keyTagOf : Bytes → ℕ
+keyTagOf k = mixed (pairTagOf (part 0 32 k)) (tagOf (part 32 16 k))

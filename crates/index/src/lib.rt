@@ -1,5 +1,5 @@
-// Series found by their id or by their pair of parties. Blocks are linked in buckets by a number made of these bytes, so that a search looks at
-// few blocks, however many there are.
+// Series found by their id, by their key or by the parties of a trade. Blocks are linked in buckets by a number made of these bytes, so that a search
+// looks at few blocks, however many there are.
 ghost use mathlib.Core.Path.{_≡_};
 ghost use mathlib.Core.Bool.{true};
 ghost use Prim.Native.Nat.{_-_, _/_, _≤_, _<_};
@@ -7,18 +7,22 @@ ghost use lib.ListN.{length};
 ghost use Rattle.laws.specs.Lists.{place};
 ghost use Rattle.laws.specs.Cut.{cut};
 ghost use Rattle.paper.specs.Layout.{zeros};
-ghost use Rattle.index.specs.Linked.{bucket, keyOf, ownIn, seriesIn, Links, ownWith, Found};
+ghost use Rattle.index.specs.Linked.{bucket, hashed, alike, ownIn, seriesIn, Links, ownWith, Found};
 use field::same;
 use layout::id_of;
 use layout::pair;
+use layout::parties_and_agreement;
 use paper::Slot;
 use slots::block_at;
 use slots::is_series;
 use slots::is_series_of;
+use slots::same_key;
+use slots::same_trade;
 
+pub mod rights;
 pub mod tags;
 
-use tags::pair_tag_of;
+use tags::key_tag_of;
 
 // No bucket has a first block.
 pub fn no_heads() -> [u16; 1024]
@@ -38,24 +42,38 @@ pub fn no_nexts() -> [u16; 1000]
 pub fn bucket(v: &[u8]) -> usize
     ensures { λ r. ⌜ (r ≡ bucket (now (v .entry))) × (r < 1024) ⌝ }
 {
-    (pair_tag_of(v) / 4194304) as usize
+    (key_tag_of(v) / 4194304) as usize
 }
 
 // What a series is sought by.
 pub enum By {
     Id,
-    Pair,
+    Key,
+    Trade,
 }
 
 // The series of a message lie in no sender's slot.
 pub const IN_MESSAGE: Slot = Slot(0);
 
-fn key_of(by: By, x: &[u8]) -> &[u8]
-    ensures { λ r. ⌜ now r ≡ keyOf by (now (x .entry)) ⌝ }
+// What its bucket is made of.
+fn hashed(by: By, x: &[u8]) -> &[u8]
+    ensures { λ r. ⌜ now r ≡ hashed by (now (x .entry)) ⌝ }
 {
     match by {
         By::Id => id_of(x),
-        By::Pair => pair(x),
+        By::Key => parties_and_agreement(x),
+        By::Trade => pair(x),
+    }
+}
+
+// A bucket holds others too, which are told apart here.
+fn alike(by: By, y: &[u8], x: &[u8]) -> bool
+    ensures { λ r. ⌜ r ≡ alike by (now (y .entry)) (now (x .entry)) ⌝ }
+{
+    match by {
+        By::Id => same(id_of(x), id_of(y)),
+        By::Key => same_key(x, y),
+        By::Trade => same_trade(y, x),
     }
 }
 
@@ -82,7 +100,7 @@ fn link_own_block(
     if !is_series_of(x, slot) {
         return;
     }
-    let g = bucket(key_of(by, x));
+    let g = bucket(hashed(by, x));
     nexts[i - 1] = heads[g];
     heads[g] = i as u16;
 }
@@ -100,28 +118,28 @@ pub fn link_own(us: &[u8], slot: Slot, by: By, heads: &mut [u16; 1024], nexts: &
     }
 }
 
-fn is_own_with(x: &[u8], slot: Slot, by: By, v: &[u8]) -> bool
-    ensures { λ r. ⌜ r ≡ ownWith (slot .0) by (now (v .entry)) (now (x .entry)) ⌝ }
+fn is_own_with(x: &[u8], slot: Slot, by: By, y: &[u8]) -> bool
+    ensures { λ r. ⌜ r ≡ ownWith (slot .0) by (now (y .entry)) (now (x .entry)) ⌝ }
 {
-    is_series_of(x, slot) & same(key_of(by, x), v)
+    is_series_of(x, slot) & alike(by, y, x)
 }
 
-// The place of the first of them that has a key; 0 where none has it.
+// The place of the first of them that has what y is sought by; 0 where none has it.
 pub fn own_with(
     us: &[u8],
     slot: Slot,
     by: By,
-    v: &[u8],
+    y: &[u8],
     heads: &[u16; 1024],
     nexts: &[u16; 1000],
 ) -> usize
     requires { ⌜ (length (now us) / 512 ≤ 1000) × Links (ownIn (slot .0) by) (cut 512 (now us)) 0 (now heads) (now nexts) ⌝ }
-    ensures { λ r. ⌜ (r ≡ place (ownWith (slot .0) by (now (v .entry))) (cut 512 (now (us .entry)))) × (r ≤ 1000) ⌝ }
+    ensures { λ r. ⌜ (r ≡ place (ownWith (slot .0) by (now (y .entry))) (cut 512 (now (us .entry)))) × (r ≤ 1000) ⌝ }
 {
     let own = slot.0;
-    let mut at = wide(heads[bucket(v)]);
+    let mut at = wide(heads[bucket(hashed(by, y))]);
     while at != 0 {
-        if is_own_with(block_at(us, at - 1), Slot(own), by, v) {
+        if is_own_with(block_at(us, at - 1), Slot(own), by, y) {
             return at;
         }
         at = wide(nexts[at - 1]);
@@ -129,7 +147,7 @@ pub fn own_with(
     at
 }
 
-// Of each block of `of` the place in `us` of the sender's first series with the same key, for as many turns as there are blocks.
+// Of each block of `of` the place in `us` of the sender's first series like it, for as many turns as there are blocks.
 fn find_each(
     us: &[u8],
     slot: Slot,
@@ -146,13 +164,14 @@ fn find_each(
     let blocks = of.len() / 512;
     let mut k = 0;
     while k < blocks {
-        let v = key_of(by, block_at(of, k));
-        found[k] = own_with(us, Slot(own), by, v, heads, nexts) as u16;
+        let y = block_at(of, k);
+        found[k] = own_with(us, Slot(own), by, y, heads, nexts) as u16;
         k += 1;
     }
 }
 
-// Of each block of `of` the place in `us` of the first series, of the sender in a slot, with the same id or with the same pair; 0 where there is none.
+// Of each block of `of` the place in `us` of the first series, of the sender in a slot, with the same id, the same key or the same parties of a
+// trade; 0 where there is none.
 pub fn look_up(us: &[u8], slot: Slot, by: By, of: &[u8], found: &mut [u16; 1000])
     requires { ⌜ (length (now us) / 512 ≤ 1000) × (length (now of) / 512 ≤ 1000) × (length (now found) ≡ 1000) ⌝ }
     ensures { λ _. ⌜ Found (slot .0) by (cut 512 (now (us .entry))) (cut 512 (now (of .entry))) (now (found .exit)) ⌝ }

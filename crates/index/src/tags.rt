@@ -1,6 +1,6 @@
 // Numbers made of fields: two fields are compared byte by byte only where their numbers agree.
 ghost use mathlib.Core.Path.{_≡_};
-ghost use Rattle.index.specs.Tags.{mixed, tagOf, pairTagOf};
+ghost use Rattle.index.specs.Tags.{mixed, tagOf, pairTagOf, keyTagOf};
 use block::numbers::number_4;
 use field::part_of;
 
@@ -29,4 +29,11 @@ pub fn pair_tag_of(p: &[u8]) -> u32
     ensures { λ r. ⌜ r ≡ pairTagOf (now (p .entry)) ⌝ }
 {
     mixed(tag_of(part_of(p, 0, 16)), tag_of(part_of(p, 16, 16)))
+}
+
+// Of a pair and an agreement, or of fewer fields.
+pub fn key_tag_of(k: &[u8]) -> u32
+    ensures { λ r. ⌜ r ≡ keyTagOf (now (k .entry)) ⌝ }
+{
+    mixed(pair_tag_of(part_of(k, 0, 32)), tag_of(part_of(k, 32, 16)))
 }

@@ -2,6 +2,8 @@
 pub mod Order
 pub mod Quantities
 pub mod Places
+pub mod Sums
+pub mod Rights
 pub mod Rule7
 pub mod Series
 pub mod Joined

@@ -8,13 +8,14 @@ ghost use Rattle.paper.specs.Eic.{eicNumber};
 ghost use Rattle.paper.specs.Book.{slotOf};
 ghost use Rattle.paper.specs.Message.{headOf, seriesOf};
 ghost use Rattle.paper.specs.Rules.{broken, brokenBy, rule4, headVerdict, verdict};
-ghost use Rattle.index.specs.declared.By.the-variants.{Pair};
+ghost use Rattle.index.specs.declared.By.the-variants.{Key};
 ghost use Rattle.index.specs.Linked.{Found};
 ghost use Rattle.judge.specs.Order.{lastVerdictOf};
 ghost use Rattle.judge.specs.Looked.{Taken, JudgedFrom, JudgedBook};
 
 pub mod order;
 pub mod positions;
+pub mod rights;
 pub mod series;
 
 use eic::eic_number;
@@ -82,7 +83,7 @@ fn last_verdict(
     places: &[u16; 1000],
     numbers: &[u16; 1000],
 ) -> Verdict
-    requires { ⌜ Taken (cut 512 (now us)) (cut 512 (now series)) × Found (standing .slot) Pair (cut 512 (now us)) (cut 512 (now series)) (now places) × Found 0 Pair (cut 512 (now series)) (cut 512 (now us)) (now numbers) ⌝ }
+    requires { ⌜ Taken (cut 512 (now us)) (cut 512 (now series)) × Found (standing .slot) Key (cut 512 (now us)) (cut 512 (now series)) (now places) × Found 0 Key (cut 512 (now series)) (cut 512 (now us)) (now numbers) ⌝ }
     ensures { λ r. ⌜ r ≡ lastVerdictOf (cut 512 (now (us .entry))) (standing .slot) (standing .free) (cut 512 (now (series .entry))) ⌝ }
 {
     let slot = standing.slot;
@@ -118,7 +119,7 @@ fn judge_from(
         return walked;
     }
     let series = series_of(message);
-    look_up(series, IN_MESSAGE, By::Pair, us, numbers);
+    look_up(series, IN_MESSAGE, By::Key, us, numbers);
     last_verdict(us, series, standing, places, numbers)
 }
 

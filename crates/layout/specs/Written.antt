@@ -1,4 +1,4 @@
--- A block with a field written, each by its name: with the paper's Layout, Check and Opening the only definitions that name an offset.
+-- A block with a field written, each by its name: with the paper's Layout, Check and Opening, and the tables of message_text, the only definitions that name an offset.
 use mathlib.Core.List.{List, [], _∷_, _++_}
 use Prim.Native.Nat.{ℕ, zero, suc, _+_, _*_, _%_}
 use lib.ListN.{drop, getD, set}

@@ -1,9 +1,10 @@
-// The fields of a block by name, read here and written in `write`: with `check` of the crate block, the only code that names an offset. A field of a block that is too short is
+// The fields of a block by name, read here and written in `write`: with `check` of the crate block and the tables of message_text, the only code that names an offset. A field of a block that is too short is
 // shorter too, and a number read of it counts the missing bytes as 0, as the definitions have it.
 ghost use mathlib.Core.Path.{_≡_};
 ghost use Prim.Native.Nat.{_<_, _≤_};
 ghost use lib.ListN.{length};
-ghost use Rattle.paper.specs.Layout.{kind, nOf, lead, clockPlus10080, ruleOf, dayOfBook, area, receiver, version, idOf, seriesCount, sender, dayOfMessage, nets, businessType, contractType, sendersSlot, inArea, outArea, inParty, outParty, pair, agreement, mark, differing, first, partner, quantities, quantity, aboveN, dayZeros, senderZeros, senderZerosInMessage, seriesZerosInMessage};
+ghost use Rattle.laws.specs.Bytes.{part};
+ghost use Rattle.paper.specs.Layout.{kind, nOf, lead, clockPlus10080, ruleOf, dayOfBook, area, receiver, version, idOf, seriesCount, sender, dayOfMessage, nets, businessType, contractType, sendersSlot, inArea, outArea, inParty, outParty, pair, agreement, mark, differing, first, partner, quantities, quantity, aboveN, holder, limit, rightZeros, butLimits, dayZeros, senderZeros, senderZerosInMessage, seriesZerosInMessage};
 use block::numbers::byte_or_zero;
 use block::numbers::number_2;
 use block::numbers::number_4;
@@ -159,6 +160,27 @@ pub fn agreement(b: &[u8]) -> &[u8]
     part_of(b, 88, 16)
 }
 
+// Business type and contract type. The key is these, the areas, and parties and agreement.
+pub fn types(x: &[u8]) -> &[u8]
+    ensures { λ r. ⌜ now r ≡ part 4 2 (now (x .entry)) ⌝ }
+{
+    part_of(x, 4, 2)
+}
+
+// In area and out area together.
+pub fn areas(x: &[u8]) -> &[u8]
+    ensures { λ r. ⌜ now r ≡ part 24 32 (now (x .entry)) ⌝ }
+{
+    part_of(x, 24, 32)
+}
+
+// What tells the series of one sender apart nearly always: two of them differ in little else.
+pub fn parties_and_agreement(x: &[u8]) -> &[u8]
+    ensures { λ r. ⌜ now r ≡ part 56 48 (now (x .entry)) ⌝ }
+{
+    part_of(x, 56, 48)
+}
+
 pub fn mark(b: &[u8]) -> &[u8]
     ensures { λ r. ⌜ now r ≡ mark (now (b .entry)) ⌝ }
 {
@@ -213,6 +235,27 @@ pub fn above_n(n: usize, b: &[u8]) -> &[u8]
     part_of(b, 108 + 4 * n, 400 - 4 * n)
 }
 
+// A right has the layout of a series: its holder stands as either party, its limits as quantities.
+pub fn holder(b: &[u8]) -> &[u8]
+    ensures { λ r. ⌜ now r ≡ holder (now (b .entry)) ⌝ }
+{
+    in_party(b)
+}
+
+pub fn limit(b: &[u8], k: usize) -> u32
+    requires { ⌜ k < 100 ⌝ }
+    ensures { λ r. ⌜ r ≡ limit (now (b .entry)) k ⌝ }
+{
+    quantity(b, k)
+}
+
+// All that tells two rights apart.
+pub fn but_limits(b: &[u8]) -> &[u8]
+    ensures { λ r. ⌜ now r ≡ butLimits (now (b .entry)) ⌝ }
+{
+    part_of(b, 0, 108)
+}
+
 // The bytes that the layout shows as 0.
 pub fn day_zeros(d: &[u8]) -> bool
     ensures { λ r. ⌜ r ≡ dayZeros (now (d .entry)) ⌝ }
@@ -238,4 +281,11 @@ pub fn series_zeros_in_message(x: &[u8]) -> bool
     ensures { λ r. ⌜ r ≡ seriesZerosInMessage (now (x .entry)) ⌝ }
 {
     all_zero(part_of(x, 6, 2)) & all_zero(part_of(x, 104, 4))
+}
+
+// A right has no version, sender's slot, id or mark.
+pub fn right_zeros(b: &[u8]) -> bool
+    ensures { λ r. ⌜ r ≡ rightZeros (now (b .entry)) ⌝ }
+{
+    all_zero(part_of(b, 2, 2)) & all_zero(part_of(b, 6, 18)) & all_zero(part_of(b, 104, 4))
 }

@@ -1,22 +1,35 @@
--- A counterpart is linked in the bucket of its pair; count and first position by position, and the mark from the numbers that the code finds.
-use Rattle.laws.specs.Kit.{_≡_, refl, sym, ap, _∙_, true, cond, List, [], _∷_, ℕ, _+_, _≤_, _<_, arith, is, is-equal, and-left, and-right, and-both}
+-- A counterpart is linked in the bucket of its pair, and an external schedule has none; count and first position by position, and the mark from the numbers that the code finds.
+use Rattle.laws.specs.Kit.{_≡_, refl, sym, ap, _∙_, true, false, cond, List, [], _∷_, ℕ, _+_, _≤_, _<_, arith, is, split, clash, is-equal, and-both}
 use Rattle.laws.specs.Lists.{same}
 use Rattle.laws.specs.Lists.Same.{same-yes}
-use Rattle.laws.specs.Lists.Search.{has-no-find, place-none, place-find}
+use Rattle.laws.specs.Lists.Each.{all-each}
+use Rattle.laws.specs.Lists.Search.{all-has-no, has-no-find, has-no-place, place-none, place-find}
 use Rattle.laws.specs.Bytes.{little}
-use Rattle.paper.specs.Layout.{Bytes, Block, quantities, entry, quantity}
-use Rattle.paper.specs.Book.{numbered, pairIs}
+use Rattle.paper.specs.Layout.{Bytes, Block, sendersSlot, pair, quantities, entry, quantity}
+use Rattle.paper.specs.Book.{numbered, isTrade, trade, tradeIs}
 use Rattle.paper.specs.Marks.{isCounterpart, counterpart, counterpartSlot, differenceFrom, firstDifference, differences, markOf, markIn}
 use Rattle.facts.specs.Layout.{entry-quantities}
+use Rattle.facts.specs.Pairs.{trade-domestic, trade-is-pair, trade-none, counterpart-series, counterpart-trade}
 use Rattle.facts.specs.Marks.{Agree, differences-most, first-most, agree-no-differences, agree-no-difference, first-where-equal, first-where-other, differences-where-equal, differences-where-other}
 use Rattle.index.specs.Linked.{bucket, seriesIn}
 use Rattle.slots.proofs.Laws.{numbered-some}
 
 -- ---- the bucket of a counterpart
 
-pub counterpart-linked : (slot : ℕ) (p : Bytes) (x : Block) → isCounterpart slot p x ≡ true → seriesIn (bucket p) x ≡ true
-unfolding isCounterpart pairIs seriesIn
-counterpart-linked slot p x e = and-both _ _ (and-left _ _ (and-left _ _ e)) (is-equal _ _ (ap bucket (same-yes _ _ (and-right _ _ e))))
+trade-pair : (x y : Block) → tradeIs (trade x) y ≡ true → pair y ≡ pair x
+trade-pair x y e = split (isTrade x) (λ t. trade-is-pair (pair x) y (rw (trade-domestic x t) at e)) (λ t. clash e (trade-none x y t))
+
+pub counterpart-linked : (slot : ℕ) (x y : Block) → isCounterpart slot (trade x) y ≡ true → seriesIn (bucket (pair x)) y ≡ true
+unfolding seriesIn
+counterpart-linked slot x y e =
+    and-both _ _ (counterpart-series slot (trade x) y e) (is-equal _ _ (ap bucket (trade-pair x y (counterpart-trade slot (trade x) y e))))
+
+-- ---- an external schedule has none
+
+pub no-counterpart : (us : List Block) (x : Block) → isTrade x ≡ false → counterpartSlot us x ≡ 0
+unfolding counterpartSlot
+no-counterpart us x i = has-no-place _ us (all-has-no _ us (all-each (λ y. isCounterpart (sendersSlot x) (trade x) y ≡ false)
+    (λ y. split (isCounterpart (sendersSlot x) (trade x) y) (λ t. clash (counterpart-trade _ _ y t) (trade-none x y i)) (λ t. t)) us))
 
 -- ---- how two series differ
 

@@ -7,7 +7,7 @@ ghost use lib.ListN.{length};
 ghost use Rattle.laws.specs.Tests.{is};
 ghost use Rattle.laws.specs.Cut.{cut};
 ghost use Rattle.paper.specs.Layout.{quantities};
-ghost use Rattle.paper.specs.Book.{pairIs};
+ghost use Rattle.paper.specs.Book.{trade};
 ghost use Rattle.paper.specs.Marks.{isCounterpart, counterpartSlot, differences, firstDifference, markIn};
 ghost use Rattle.paper.specs.PlainRun.{markTrue};
 ghost use Rattle.index.specs.Linked.{seriesIn, Links};
@@ -22,18 +22,13 @@ use layout::senders_slot;
 use paper::Slot;
 use slots::block_at;
 use slots::is_series;
+use slots::is_trade;
 use slots::numbered;
+use slots::same_trade;
 
-// What two series of one trade have in common, and two of one sender never have.
-fn pair_is(x: &[u8], p: &[u8]) -> bool
-    ensures { λ r. ⌜ r ≡ pairIs (now (p .entry)) (now (x .entry)) ⌝ }
-{
-    same(pair(x), p)
-}
-
-// The kind and the sender's slot first: a search asks this of every used slot, and most have another pair.
-fn is_counterpart(y: &[u8], slot: Slot, p: &[u8]) -> bool
-    ensures { λ r. ⌜ r ≡ isCounterpart (slot .0) (now (p .entry)) (now (y .entry)) ⌝ }
+// y is the other side of x, a series of the sender in a slot. An external schedule has no other side, and is none.
+fn is_counterpart(y: &[u8], slot: Slot, x: &[u8]) -> bool
+    ensures { λ r. ⌜ r ≡ isCounterpart (slot .0) (trade (now (x .entry))) (now (y .entry)) ⌝ }
 {
     if !is_series(y) {
         return false;
@@ -41,24 +36,34 @@ fn is_counterpart(y: &[u8], slot: Slot, p: &[u8]) -> bool
     if senders_slot(y).0 == slot.0 {
         return false;
     }
-    pair_is(y, p)
+    same_trade(x, y)
 }
 
-// The slot of the other party's series; 0 where it has none. It is sought among the series of the pair's bucket alone.
-fn counterpart_slot(us: &[u8], x: &[u8], heads: &[u16; 1024], nexts: &[u16; 1000]) -> Slot
+// It is sought among the series of the pair's bucket alone.
+fn counterpart_among(us: &[u8], x: &[u8], heads: &[u16; 1024], nexts: &[u16; 1000]) -> Slot
     requires { ⌜ (length (now us) / 512 ≤ 1000) × Links seriesIn (cut 512 (now us)) 0 (now heads) (now nexts) ⌝ }
     ensures { λ r. ⌜ r .0 ≡ counterpartSlot (cut 512 (now (us .entry))) (now (x .entry)) ⌝ }
 {
     let slot = senders_slot(x).0;
-    let p = pair(x);
-    let mut at = wide(heads[bucket(p)]);
+    let mut at = wide(heads[bucket(pair(x))]);
     while at != 0 {
-        if is_counterpart(block_at(us, at - 1), Slot(slot), p) {
+        if is_counterpart(block_at(us, at - 1), Slot(slot), x) {
             return Slot(at);
         }
         at = wide(nexts[at - 1]);
     }
     Slot(at)
+}
+
+// The slot of the other party's series; 0 where it has none, as an external schedule never has.
+fn counterpart_slot(us: &[u8], x: &[u8], heads: &[u16; 1024], nexts: &[u16; 1000]) -> Slot
+    requires { ⌜ (length (now us) / 512 ≤ 1000) × Links seriesIn (cut 512 (now us)) 0 (now heads) (now nexts) ⌝ }
+    ensures { λ r. ⌜ r .0 ≡ counterpartSlot (cut 512 (now (us .entry))) (now (x .entry)) ⌝ }
+{
+    if !is_trade(x) {
+        return Slot(0);
+    }
+    counterpart_among(us, x, heads, nexts)
 }
 
 // How two series of one trade differ: at how many positions, and the first of them; 0 and 0 where they agree.

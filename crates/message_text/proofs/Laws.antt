@@ -1,4 +1,3 @@
 -- What the proofs of the text form rest on.
 pub mod Fields
 pub mod Lines
-pub mod Read

@@ -1,20 +1,21 @@
-// A text form of a message, a line for each field, so that a person can write one.
+// A text form of a message and of a right, a line for each field, so that a person can write one.
 ghost use mathlib.Core.Path.{_≡_};
 ghost use Prim.Native.Nat.{_+_, _*_, _≤_};
 ghost use mathlib.Core.Bool.{true};
-ghost use mathlib.Core.List.{[]};
-ghost use lib.ListN.{length};
+ghost use lib.ListN.{length, replicate};
 ghost use Rattle.paper.specs.Check.{sealed};
 ghost use Rattle.layout.specs.Written.{withSeriesCount};
-ghost use Rattle.message_text.specs.MessageText.{Gives, fieldLaid, newBlock, newSeries, begun, withLine, messageText};
-ghost use Rattle.message_text.specs.MessageText.{inBlock, laid, withLines};
+ghost use Rattle.message_text.specs.MessageText.{Gives, inBlock, laid, fieldLaid, newBlock, begun, withLine, withLines};
+ghost use Rattle.message_text.specs.MessageText.{textLaid, copied, zerosFor, messageText, rightText};
 ghost use Rattle.message_words.specs.Words.{lines};
 use block::check::seal;
+use block::numbers::write_bytes;
 use field::same;
+use field::within;
 use fill::in_block;
+use layout::kind;
 use layout::n_of;
 use layout::version;
-use layout::write::Field;
 use layout::write::ID;
 use layout::write::write_business_type;
 use layout::write::write_field;
@@ -34,48 +35,41 @@ pub struct Laid {
     pub series: usize,
 }
 
-// The first wrong line, counted from 1, and 0; or 0, and how many bytes the message has.
+// The first wrong line, counted from 1, and 0; or 0, and how many bytes are laid.
 #[repr(C)]
 pub struct TextRead {
     pub line: usize,
     pub length: usize,
 }
 
-// The check is put right with each line, so that the message is whole after every one of them.
-fn fill_block(x: &mut [u8], series: usize, w: &[u8], v: &[u8]) -> bool
+// ---- a line
+
+// The check is put right with each line, so that a block is whole after every one of them.
+fn fill_block(x: &mut [u8], w: &[u8], v: &[u8]) -> bool
     requires { ⌜ length (now x) ≡ 512 ⌝ }
-    ensures { λ r. ⌜ (r ≡ (inBlock series (now (w .entry)) (now (v .entry)) (now (x .entry))) .0) × (now (x .exit) ≡ sealed ((inBlock series (now (w .entry)) (now (v .entry)) (now (x .entry))) .1)) ⌝ }
+    ensures { λ r. ⌜ (r ≡ (inBlock (now (w .entry)) (now (v .entry)) (now (x .entry))) .0) × (now (x .exit) ≡ sealed ((inBlock (now (w .entry)) (now (v .entry)) (now (x .entry))) .1)) ⌝ }
 {
-    let fine = in_block(x, series, w, v);
+    let fine = in_block(x, w, v);
     seal(x);
     fine
 }
 
-fn lay_field(buffer: &mut [u8], series: usize, w: &[u8], v: &[u8]) -> Laid
-    requires { ⌜ 512 * (series + 1) ≤ length (now buffer) ⌝ }
-    ensures { λ r. ⌜ (Gives (fieldLaid series (now (w .entry)) (now (v .entry)) (now (buffer .entry))) r (now (buffer .exit))) × (512 * (r .series + 1) ≤ length (now (buffer .entry))) ⌝ }
+fn lay_field(room: &mut [u8], series: usize, w: &[u8], v: &[u8]) -> Laid
+    requires { ⌜ 512 * (series + 1) ≤ length (now room) ⌝ }
+    ensures { λ r. ⌜ (Gives (fieldLaid series (now (w .entry)) (now (v .entry)) (now (room .entry))) r (now (room .exit))) × (512 * (r .series + 1) ≤ length (now (room .entry))) ⌝ }
 {
     let start = 512 * series;
-    let fine = fill_block(&mut buffer[start..start + 512], series, w, v);
+    let fine = fill_block(&mut room[start..start + 512], w, v);
     Laid { fine, series }
 }
 
-// What is not said is zero.
-fn write_block(block: &mut [u8], kind: u8, n: u8, version: u16)
+// Over zeros: what is not said stays zero.
+fn write_block(block: &mut [u8], kind: u8, business: u8, n: u8, version: u16, id: &[u8])
     requires { ⌜ length (now block) ≡ 512 ⌝ }
-    ensures { λ _. ⌜ now (block .exit) ≡ newBlock kind n version ⌝ }
+    ensures { λ _. ⌜ now (block .exit) ≡ newBlock kind business n version (now (id .entry)) (now (block .entry)) ⌝ }
 {
-    write_field(block, Field { at: 0, width: 512 }, b"");
     write_front(block, kind, n, version);
-}
-
-// n and version are the sender block's until a line says otherwise.
-fn write_series(block: &mut [u8], n: u8, version: u16, id: &[u8])
-    requires { ⌜ length (now block) ≡ 512 ⌝ }
-    ensures { λ _. ⌜ now (block .exit) ≡ newSeries n version (now (id .entry)) ⌝ }
-{
-    write_block(block, 2, n, version);
-    write_business_type(block, 2);
+    write_business_type(block, business);
     write_field(block, ID, id);
     seal(block);
 }
@@ -87,36 +81,31 @@ fn count_series(block: &mut [u8], series: usize)
     seal(block);
 }
 
-fn begin_series(buffer: &mut [u8], series: usize, id: &[u8]) -> Laid
-    requires { ⌜ 512 * (series + 1) ≤ length (now buffer) ⌝ }
-    ensures { λ r. ⌜ (Gives (begun (length (now (buffer .entry))) series (now (id .entry)) (now (buffer .entry))) r (now (buffer .exit))) × (512 * (r .series + 1) ≤ length (now (buffer .entry))) ⌝ }
+// A right has no series. n and version are the sender block's until a line says otherwise.
+fn begin_series(room: &mut [u8], series: usize, id: &[u8]) -> Laid
+    requires { ⌜ 512 * (series + 1) ≤ length (now room) ⌝ }
+    ensures { λ r. ⌜ (Gives (begun series (now (id .entry)) (now (room .entry))) r (now (room .exit))) × (512 * (r .series + 1) ≤ length (now (room .entry))) ⌝ }
 {
-    if 200 <= series {
-        return Laid {
-            fine: false,
-            series,
-        };
-    }
     let start = 512 * (series + 1);
-    if buffer.len() < start + 512 {
+    if !((kind(room) == 1) & (start + 512 <= room.len())) {
         return Laid {
             fine: false,
             series,
         };
     }
-    let n = n_of(buffer);
-    let v = version(buffer);
-    count_series(&mut buffer[..512], series + 1);
-    write_series(&mut buffer[start..start + 512], n, v, id);
+    let n = n_of(room);
+    let v = version(room);
+    count_series(&mut room[..512], series + 1);
+    write_block(&mut room[start..start + 512], 2, 2, n, v, id);
     Laid {
         fine: id.len() <= 16,
         series: series + 1,
     }
 }
 
-fn lay_line(buffer: &mut [u8], series: usize, line: &[u8]) -> Laid
-    requires { ⌜ 512 * (series + 1) ≤ length (now buffer) ⌝ }
-    ensures { λ r. ⌜ (Gives (withLine (length (now (buffer .entry))) series (now (line .entry)) (now (buffer .entry))) r (now (buffer .exit))) × (512 * (r .series + 1) ≤ length (now (buffer .entry))) ⌝ }
+fn lay_line(room: &mut [u8], series: usize, line: &[u8]) -> Laid
+    requires { ⌜ 512 * (series + 1) ≤ length (now room) ⌝ }
+    ensures { λ r. ⌜ (Gives (withLine series (now (line .entry)) (now (room .entry))) r (now (room .exit))) × (512 * (r .series + 1) ≤ length (now (room .entry))) ⌝ }
 {
     if skipped(line) {
         return Laid { fine: true, series };
@@ -124,29 +113,23 @@ fn lay_line(buffer: &mut [u8], series: usize, line: &[u8]) -> Laid
     let w = word(line);
     let v = value(line);
     if same(w, b"series") {
-        return begin_series(buffer, series, v);
+        return begin_series(room, series, v);
     }
-    lay_field(buffer, series, w, v)
+    lay_field(room, series, w, v)
 }
 
-fn write_start(block: &mut [u8])
-    requires { ⌜ length (now block) ≡ 512 ⌝ }
-    ensures { λ _. ⌜ now (block .exit) ≡ sealed (newBlock 1 0 0) ⌝ }
-{
-    write_block(block, 1, 0, 0);
-    seal(block);
-}
+// ---- the whole text
 
 // The first wrong line ends the reading.
-fn lay_lines(buffer: &mut [u8], text: &[u8]) -> TextRead
-    requires { ⌜ 512 ≤ length (now buffer) ⌝ }
-    ensures { λ r. ⌜ Gives (withLines (length (now (buffer .entry))) 0 (laid true 0, now (buffer .entry)) (lines (now (text .entry)))) r (now (buffer .exit)) ⌝ }
+fn lay_lines(room: &mut [u8], text: &[u8]) -> TextRead
+    requires { ⌜ 512 ≤ length (now room) ⌝ }
+    ensures { λ r. ⌜ (Gives (withLines 0 (laid true 0, now (room .entry)) (lines (now (text .entry)))) r (now (room .exit))) × (r .length ≤ length (now (room .entry))) ⌝ }
 {
     let mut series = 0;
     let mut number = 0;
     let mut at = 0;
     while at < text.len() {
-        let laid = lay_line(buffer, series, line_at(text, at));
+        let laid = lay_line(room, series, line_at(text, at));
         number += 1;
         if !laid.fine {
             return TextRead {
@@ -163,93 +146,47 @@ fn lay_lines(buffer: &mut [u8], text: &[u8]) -> TextRead
     }
 }
 
-// ---- a text read before anything is written
-
-// Whether a value is fine does not depend on the block that it would stand in.
-fn field_fine(series: usize, w: &[u8], v: &[u8]) -> bool
-    ensures { λ r. ⌜ r ≡ (inBlock series (now (w .entry)) (now (v .entry)) []) .0 ⌝ }
+// With no room for the first block it is line 1 that is refused.
+fn lay_text(room: &mut [u8], kind: u8, business: u8, text: &[u8]) -> TextRead
+    ensures { λ r. ⌜ (Gives (textLaid kind business (now (text .entry)) (now (room .entry))) r (now (room .exit))) × (r .length ≤ length (now (room .exit))) ⌝ }
 {
-    let mut x = [0u8; 512];
-    in_block(&mut x, series, w, v)
+    if room.len() < 512 {
+        return TextRead { line: 1, length: 0 };
+    }
+    write_block(&mut room[..512], kind, business, 0, 0, b"");
+    lay_lines(room, text)
 }
 
-fn series_read(room: usize, series: usize, id: &[u8]) -> Laid
-    requires { ⌜ series ≤ 200 ⌝ }
-    ensures { λ r. ⌜ (r ≡ (begun room series (now (id .entry)) []) .0) × (r .series ≤ 200) ⌝ }
+// The text is laid into a room of zeros, and copied when all of it is read: a wrong line leaves the buffer as it was.
+fn blocks_from_text(
+    text: &[u8],
+    buffer: &mut [u8],
+    room: &mut [u8],
+    kind: u8,
+    business: u8,
+) -> TextRead
+    requires { ⌜ now room ≡ replicate (length (now room)) 0 ⌝ }
+    ensures { λ r. ⌜ Gives (copied (now (buffer .entry)) (textLaid kind business (now (text .entry)) (zerosFor (length (now (room .entry))) (now (buffer .entry))))) r (now (buffer .exit)) ⌝ }
 {
-    if 200 <= series {
-        return Laid {
-            fine: false,
-            series,
-        };
-    }
-    if room < 512 * (series + 2) {
-        return Laid {
-            fine: false,
-            series,
-        };
-    }
-    Laid {
-        fine: id.len() <= 16,
-        series: series + 1,
-    }
+    let n = within(buffer.len(), room);
+    let read = lay_text(&mut room[..n], kind, business, text);
+    let k = read.length;
+    write_bytes(buffer, 0, &room[..k]);
+    read
 }
 
-fn line_read(room: usize, series: usize, line: &[u8]) -> Laid
-    requires { ⌜ series ≤ 200 ⌝ }
-    ensures { λ r. ⌜ (r ≡ (withLine room series (now (line .entry)) []) .0) × (r .series ≤ 200) ⌝ }
-{
-    if skipped(line) {
-        return Laid { fine: true, series };
-    }
-    let w = word(line);
-    let v = value(line);
-    if same(w, b"series") {
-        return series_read(room, series, v);
-    }
-    Laid {
-        fine: field_fine(series, w, v),
-        series,
-    }
-}
-
-// What laying the lines into a buffer of so many bytes would answer.
-fn read_lines(room: usize, text: &[u8]) -> TextRead
-    ensures { λ r. ⌜ r ≡ (withLines room 0 (laid true 0, []) (lines (now (text .entry)))) .0 ⌝ }
-{
-    let mut series = 0;
-    let mut number = 0;
-    let mut at = 0;
-    while at < text.len() {
-        let laid = line_read(room, series, line_at(text, at));
-        number += 1;
-        if !laid.fine {
-            return TextRead {
-                line: number,
-                length: 0,
-            };
-        }
-        series = laid.series;
-        at = next_line(text, at);
-    }
-    TextRead {
-        line: 0,
-        length: 512 * (series + 1),
-    }
-}
-
-// The message's blocks, from a text. A buffer with no room for the sender's block is refused at line 1. The text is read before it is laid, so that a wrong
-// line leaves the buffer as it was.
+// A message's blocks, from a text. The longest message has 201.
 pub fn message_from_text(text: &[u8], buffer: &mut [u8]) -> TextRead
     ensures { λ r. ⌜ Gives (messageText (now (text .entry)) (now (buffer .entry))) r (now (buffer .exit)) ⌝ }
 {
-    if buffer.len() < 512 {
-        return TextRead { line: 1, length: 0 };
-    }
-    let read = read_lines(buffer.len(), text);
-    if read.line != 0 {
-        return read;
-    }
-    write_start(&mut buffer[..512]);
-    lay_lines(buffer, text)
+    let mut room = [0u8; 102912];
+    blocks_from_text(text, buffer, &mut room, 1, 0)
+}
+
+// A right's one block (C-14), from a text.
+pub fn right_from_text(text: &[u8], buffer: &mut [u8]) -> TextRead
+    ensures { λ r. ⌜ Gives (rightText (now (text .entry)) (now (buffer .entry))) r (now (buffer .exit)) ⌝ }
+{
+    let mut room = [0u8; 512];
+    blocks_from_text(text, buffer, &mut room, 4, 3)
 }

@@ -8,6 +8,7 @@ use Rattle.paper.specs.Layout.{Bytes}
 use Rattle.paper.specs.Rules.{numberOf, verdict}
 use Rattle.paper.specs.Book.{used}
 use Rattle.paper.specs.Acceptance.{submitted}
+use Rattle.paper.specs.Rights.{entered}
 use Rattle.paper.specs.Opening.{Opening, openNumber, opened}
 use Rattle.paper.specs.Clock.{clockMoved}
 use Rattle.paper.specs.Conversion.{conversionNumber, converted, keptMessages}
@@ -17,6 +18,7 @@ pub data Call : Type 0 where
   opening : Opening → Call
   clockMove : ℕ → Call
   submission : Bytes → Call
+  entering : Bytes → Call
   conversion : Call
   reading : Call
 
@@ -31,6 +33,7 @@ step before (opening o) = record { book = opened (before .book) o; messages = co
 step before (clockMove minute) = record { book = clockMoved (before .book) minute; messages = before .messages }
 step before (submission message) =
     record { book = submitted (before .book) message; messages = cond (is (numberOf (verdict (before .book) message)) 0) (before .messages ++ message ∷ []) (before .messages) }
+step before (entering block) = record { book = entered (before .book) block; messages = before .messages }
 step before conversion =
     record { book = converted (before .book); messages = cond (is (conversionNumber (before .book)) 0) (keptMessages (used (converted (before .book)))) (before .messages) }
 step before reading = before

@@ -30,6 +30,8 @@ table =
     ∷ row 14 57
     ∷ row 15 50
     ∷ row 16 52
+    ∷ row 18 59
+    ∷ row 19 59
     ∷ row 30 42
     ∷ row 31 46
     ∷ []
@@ -55,9 +57,9 @@ uninterpretableMessage = 1
 abbrev pub deskNotice : ℕ
 deskNotice = 2
 
--- "where there is no code the reply is 000's uninterpretable-message mail, or for 1 and 17 a desk notice"
+-- "where there is no code the reply is 000's uninterpretable-message mail, or for 1 and 17 a desk notice", and so for 40, of which no sender knows
 unfoldable pub replyKind : (number : ℕ) → ℕ
-replyKind number = cond (is number 1 or is number 17) deskNotice (cond (is (reasonCode number) 0) uninterpretableMessage acknowledgement)
+replyKind number = cond (is number 1 or is number 17 or is number 40) deskNotice (cond (is (reasonCode number) 0) uninterpretableMessage acknowledgement)
 
 -- how a submission with this answer is replied to
 unfoldable pub replyTo : (number : ℕ) → Reply

@@ -8,7 +8,7 @@ use Rattle.laws.specs.Lists.{find}
 use Rattle.paper.specs.declared.Rule.{Rule}
 use Rattle.paper.specs.declared.FinalAnswer.{FinalAnswer}
 use Rattle.paper.specs.Layout.{Bytes, Block, nOf, ruleOf, lesserRule, sameRule, quantities, entry}
-use Rattle.paper.specs.Book.{dayBlock, used, slotOf, isSeriesOfPair}
+use Rattle.paper.specs.Book.{dayBlock, used, slotOf, isTradeOf}
 use Rattle.paper.specs.Sound.{sound}
 use Rattle.paper.specs.Rules.{closed}
 
@@ -21,9 +21,9 @@ lesserOf sellers buyers = cond (less buyers sellers) buyers sellers
 unfoldable pub finalOf : (rule : Rule) (sellers : ℕ) (buyers : ℕ) → ℕ
 finalOf rule sellers buyers = cond (sameRule rule lesserRule) (lesserOf sellers buyers) sellers
 
--- the quantities that party e has under a pair
+-- the quantities that party e has in its trade between these parties: "marks and finals pair A02 only"
 unfoldable pub held : (us : List Block) (e : Bytes) (parties : Bytes) → Option Bytes
-held us e parties = Option·map quantities (find (isSeriesOfPair (slotOf us e) parties) us)
+held us e parties = Option·map quantities (find (isTradeOf (slotOf us e) (some parties)) us)
 
 unfoldable pub isHeld : Option Bytes → Bool
 isHeld none = false

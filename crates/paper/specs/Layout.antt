@@ -1,7 +1,7 @@
 -- "Blocks": the layout. With Check, the only file that reads or writes a field by its offset; Opening lays out the day block in this order.
--- A day block is called day, a sender block s, a series block x, a block of any kind b.
+-- A day block is called day, a sender block s, a series block x, a rights block r, a block of any kind b.
 use mathlib.Core.Bool.{Bool}
-use mathlib.Core.List.{List}
+use mathlib.Core.List.{List, _++_}
 use Prim.Native.Nat.{ℕ, _+_, _-_, _*_}
 use Rattle.laws.specs.Tests.{_and_, is}
 use Rattle.laws.specs.Lists.{every}
@@ -131,6 +131,10 @@ pair x = part 56 32 x
 unfoldable pub agreement : Block → Bytes
 agreement x = part 88 16 x
 
+-- "the key grows to business type, areas, parties, contract type and agreement": these fields as they stand
+unfoldable pub key : Block → Bytes
+key x = part 4 2 x ++ part 24 80 x
+
 -- count of differing positions, first and partner slot
 unfoldable pub mark : Block → Bytes
 mark x = part 104 4 x
@@ -160,6 +164,23 @@ entry quantities k = number 4 (4 * k) quantities
 -- the bytes of the quantities, or of the nets, at the positions above n
 unfoldable pub aboveN : (n : ℕ) (b : Block) → Bytes
 aboveN n b = part (108 + 4 * n) (400 - 4 * n) b
+
+-- ---- a rights block: "kind 4, series layout, type 3, holder as both parties, version, slot, id and mark 0"
+
+unfoldable pub holder : Block → Bytes
+holder r = inParty r
+
+-- its "limit per position", at position k + 1, in kilowatts
+unfoldable pub limit : (r : Block) (k : ℕ) → ℕ
+limit r k = quantity r k
+
+-- version; sender's slot and id; mark
+unfoldable pub rightZeros : Block → Bool
+rightZeros r = zeros (part 2 2 r) and zeros (part 6 18 r) and zeros (part 104 4 r)
+
+-- "all but limits", and the check
+unfoldable pub butLimits : Block → Bytes
+butLimits r = part 0 108 r
 
 -- ---- "0 in a message": the bytes of a message's blocks that must be 0, capacity fields and quantities excepted
 

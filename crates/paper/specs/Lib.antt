@@ -25,6 +25,7 @@ pub mod Clock
 pub mod Readings
 pub mod PlainRun
 pub mod Conversion
+pub mod Rights
 pub mod QuantityText
 pub mod Listing
 -- Demand 3

@@ -6,19 +6,19 @@ use Prim.Native.Nat.{ℕ, zero, suc, _+_}
 use Rattle.laws.specs.Tests.{_and_, neg, is}
 use Rattle.laws.specs.Lists.{find, place}
 use Rattle.laws.specs.Bytes.{little}
-use Rattle.paper.specs.Layout.{Bytes, Block, sendersSlot, pair, quantities, entry}
-use Rattle.paper.specs.Book.{isSeries, pairIs}
+use Rattle.paper.specs.Layout.{Bytes, Block, sendersSlot, quantities, entry}
+use Rattle.paper.specs.Book.{isSeries, trade, tradeIs}
 
--- b is the counterpart of a series with this pair of the sender in this slot: "the other party's series with the same in and out party".
--- Each series' sender is one of its two parties, so another sender with the pair is the other party
-unfoldable pub isCounterpart : (slot : ℕ) (parties : Bytes) (b : Block) → Bool
-isCounterpart slot parties b = isSeries b and neg (is (sendersSlot b) slot) and pairIs parties b
+-- b is the counterpart of a trade between these parties of the sender in this slot: "the other party's series with the same in and out party".
+-- Each trade's sender is one of its two parties, so another sender with the pair is the other party. An external schedule has no counterpart, and is none
+unfoldable pub isCounterpart : (slot : ℕ) (parties : Option Bytes) (b : Block) → Bool
+isCounterpart slot parties b = isSeries b and neg (is (sendersSlot b) slot) and tradeIs parties b
 
 unfoldable pub counterpart : (us : List Block) (x : Block) → Option Block
-counterpart us x = find (isCounterpart (sendersSlot x) (pair x)) us
+counterpart us x = find (isCounterpart (sendersSlot x) (trade x)) us
 
 unfoldable pub counterpartSlot : (us : List Block) (x : Block) → ℕ
-counterpartSlot us x = place (isCounterpart (sendersSlot x) (pair x)) us
+counterpartSlot us x = place (isCounterpart (sendersSlot x) (trade x)) us
 
 -- the lowest position, of as many as left says from k + 1 on, at which two lists of quantities differ; 0 where they agree
 unfoldable pub differenceFrom : (left : ℕ) (k : ℕ) (ours : Bytes) (theirs : Bytes) → ℕ

@@ -34,6 +34,10 @@ versionAllowed number = upto 1 number and upto number 999
 unfoldable pub countAllowed : ℕ → Bool
 countAllowed count = upto 1 count and upto count 200
 
+-- "contract type (1–99)"
+unfoldable pub contractAllowed : ℕ → Bool
+contractAllowed contract = upto 1 contract and upto contract 99
+
 -- "Quantity 0 to 9,999,999"
 unfoldable pub quantityAllowed : ℕ → Bool
 quantityAllowed kilowatts = upto kilowatts 9999999

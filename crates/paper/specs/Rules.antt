@@ -1,21 +1,21 @@
 -- "Submission: order of checks". A rule is the test that it is broken. Its arguments come in this order: the day block or its n; what is stored of
 -- the sender, and the number of free slots; the message; the position.
--- known is the sender's stored sender block, the empty block for a new sender, and own are its stored series; head is the message's first block, y a
--- series of the message, x what is stored of it.
+-- known is the sender's stored sender block, the empty block for a new sender, own are its stored series and rights those that it holds; head is the
+-- message's first block, y a series of the message, x what is stored of it and r the right that it names.
 use mathlib.Core.Bool.{Bool, cond}
 use mathlib.Core.Option.{Option·getD}
 use mathlib.Core.List.{List, [], _∷_, _++_}
 use Prim.Native.Nat.{ℕ, _+_, _-_, _*_}
 use Rattle.laws.specs.Tests.{_and_, _or_, neg, is, less, upto}
-use Rattle.laws.specs.Lists.{same, find, has, count}
+use Rattle.laws.specs.Lists.{same, find, has, count, total}
 use Rattle.laws.specs.Order.{first as firstRefusal, along}
 use Rattle.paper.specs.declared.Verdict.{Verdict}
-use Rattle.paper.specs.Layout.{Bytes, Block, zeros, nOf, lead, clockPlus10080, dayOfBook, area, receiver, version, idOf, sender, dayOfMessage, businessType, contractType, inArea, outArea, inParty, outParty, pair, agreement, quantities, quantity}
+use Rattle.paper.specs.Layout.{Bytes, Block, nOf, lead, clockPlus10080, dayOfBook, area, receiver, version, idOf, sender, dayOfMessage, contractType, inArea, outArea, inParty, outParty, pair, key, agreement, quantities, quantity, limit}
 use Rattle.paper.specs.Ids.{idWellFormed}
 use Rattle.paper.specs.Ranges.{versionAllowed}
 use Rattle.paper.specs.Eic.{eicNumber, eicNumberOfTwo, eicValid}
-use Rattle.paper.specs.Book.{dayBlock, used, freeSlots, isSender, isSeries, idIs, pairIs, ownSender, ownSeries}
-use Rattle.paper.specs.Sound.{partiesOf, sound}
+use Rattle.paper.specs.Book.{dayBlock, used, freeSlots, isSender, isSeries, withCapacity, isExternal, idIs, keyIs, ownSender, ownSeries, ownRights}
+use Rattle.paper.specs.Sound.{partiesOf, areasAllowed, typeAllowed, capacityAllowed, sound}
 use Rattle.paper.specs.Message.{headOf, seriesOf, rule2}
 use Rattle.paper.specs.Codes.{reasonCode}
 
@@ -79,38 +79,39 @@ rule6 known head = neg (idWellFormed (idOf head)) or idOrVersionBroken known hea
 
 -- ---- rules 7 to 10: a series y of the message; seen are those earlier in it
 
--- x has the id of y and another pair
-unfoldable pub withOtherPair : (y : Block) (x : Block) → Bool
-withOtherPair y x = idIs (idOf y) x and neg (pairIs (pair y) x)
+-- x has the id of y and another key
+unfoldable pub withOtherKey : (y : Block) (x : Block) → Bool
+withOtherKey y x = idIs (idOf y) x and neg (keyIs (key y) x)
 
--- x has the pair of y and another id
+-- x has the key of y and another id
 unfoldable pub withOtherId : (y : Block) (x : Block) → Bool
-withOtherId y x = pairIs (pair y) x and neg (idIs (idOf y) x)
+withOtherId y x = keyIs (key y) x and neg (idIs (idOf y) x)
 
--- "series id malformed, or seen earlier in the message, or stored for this sender with another pair; or its pair seen earlier, or stored under another id"
+-- "series id malformed, or seen earlier in the message, or stored for this sender with another pair; or its pair seen earlier, or stored under another id":
+-- "rules 7 to 10 read the new key", here in the pair's place
 unfoldable pub rule7 : (own : List Block) (seen : List Block) (y : Block) → Bool
 rule7 own seen y =
     neg (idWellFormed (idOf y))
     or has (idIs (idOf y)) seen
-    or has (withOtherPair y) own
-    or has (pairIs (pair y)) seen
+    or has (withOtherKey y) own
+    or has (keyIs (key y)) seen
     or has (withOtherId y) own
 
--- "a party not a valid EIC, both equal, or neither the sender"
+-- "a party not a valid EIC, both equal, or neither the sender"; of an external schedule both may be the sender
 unfoldable pub rule8 : (head : Block) (y : Block) → Bool
-rule8 head y = neg (eicValid (inParty y)) or neg (eicValid (outParty y)) or neg (partiesOf (sender head) (pair y))
+rule8 head y = neg (eicValid (inParty y)) or neg (eicValid (outParty y)) or neg (partiesOf (isExternal y) (sender head) (pair y))
 
 -- "for 8 the in party is judged first, and parties equal or neither the sender give 0": both codes are good then
 unfoldable pub wrongCharacter : (y : Block) → ℕ
 wrongCharacter y = eicNumberOfTwo (inParty y) (outParty y)
 
--- "either area is not the book's"
+-- "either area is not the book's"; of an external schedule not "exactly one", or the other no valid EIC
 unfoldable pub rule9 : (day : Block) (y : Block) → Bool
-rule9 day y = neg (same (inArea y) (area day)) or neg (same (outArea y) (area day))
+rule9 day y = neg (areasAllowed (area day) y)
 
--- "business type not 2 (A02), or a capacity field not 0"
+-- "business type not 2 (A02), or a capacity field not 0"; of A03 what soundness asks of these fields
 unfoldable pub rule10 : (y : Block) → Bool
-rule10 y = neg (is (businessType y) 2) or neg (is (contractType y) 0) or neg (zeros (agreement y))
+rule10 y = neg (typeAllowed y) or neg (capacityAllowed y)
 
 -- ---- rules 11 to 13: position k + 1 of a series y; n is the day's
 
@@ -126,11 +127,34 @@ rule12 n y k = less k n and less 9999999 (quantity y k)
 unfoldable pub rule13 : (n : ℕ) (y : Block) (k : ℕ) → Bool
 rule13 n y k = upto n k and neg (is (quantity y k) 0)
 
+-- ---- rules 18 and 19, "at series level after 13 and before 14"
+
+-- the right r has the areas, the contract type and the agreement that y names
+unfoldable pub names : (y : Block) (r : Block) → Bool
+names y r =
+    same (inArea y) (inArea r) and same (outArea y) (outArea r) and is (contractType y) (contractType r) and same (agreement y) (agreement r)
+
+-- "an A03 series names no right the sender holds"
+unfoldable pub rule18 : (rights : List Block) (y : Block) → Bool
+rule18 rights y = withCapacity y and neg (has (names y) rights)
+
+-- the right that y names, the empty block where there is none
+unfoldable pub rightFor : (rights : List Block) (y : Block) → Block
+rightFor rights y = Option·getD (find (names y) rights) []
+
+-- the quantities at position k + 1 of the series on the right r
+unfoldable pub sumOn : (r : Block) (series : List Block) (k : ℕ) → ℕ
+sumOn r series k = total (λ z. cond (withCapacity z and names z r) (quantity z k) 0) series
+
+-- "At each position the sum of this series and the earlier ones of the message on one right stays at or below its limit"; seen are the earlier ones
+unfoldable pub rule19 : (n : ℕ) (r : Block) (seen : List Block) (y : Block) (k : ℕ) → Bool
+rule19 n r seen y k = withCapacity y and less k n and less (limit r k) (sumOn r seen k + quantity y k)
+
 -- ---- rules 14 and 15: x is what is stored of the series y, the empty block where it is new
 
--- A series is known again by its pair: past rule 7 id and pair go together
+-- A series is known again by its key: past rule 7 id and key go together
 unfoldable pub storedOf : (own : List Block) (y : Block) → Block
-storedOf own y = Option·getD (find (pairIs (pair y)) own) []
+storedOf own y = Option·getD (find (keyIs (key y)) own) []
 
 -- "position p is open exactly when clock + lead ≤ 15 × (p − 1)"; 10,080 is added on both sides
 unfoldable pub isOpen : (day : Block) (position : ℕ) → Bool
@@ -155,7 +179,7 @@ rule15 x head y = neg (is (version y) (seriesVersion x head y))
 
 -- the stored series x has none in the message
 unfoldable pub absent : (series : List Block) (x : Block) → Bool
-absent series x = neg (has (pairIs (pair x)) series)
+absent series x = neg (has (keyIs (key x)) series)
 
 -- "a stored series of the sender is absent"
 unfoldable pub rule16 : (own : List Block) (series : List Block) → Bool
@@ -163,7 +187,7 @@ rule16 own series = has (absent series) own
 
 -- y is not stored
 unfoldable pub isNew : (own : List Block) (y : Block) → Bool
-isNew own y = neg (has (pairIs (pair y)) own)
+isNew own y = neg (has (keyIs (key y)) own)
 
 -- how many new blocks: the sender's if it is new, and the new series
 unfoldable pub newBlocks : (known : Block) (own : List Block) (series : List Block) → ℕ
@@ -197,30 +221,44 @@ quantityVerdict n number y k =
 unfoldable pub closedVerdict : (day : Block) (x : Block) (number : ℕ) (y : Block) (k : ℕ) → Verdict
 closedVerdict day x number y k = broken (rule14 day x y k) 14 number (k + 1)
 
-unfoldable pub valuesVerdict : (day : Block) (x : Block) (head : Block) (number : ℕ) (y : Block) → Verdict
-valuesVerdict day x head number y =
-    overPositions (quantityVerdict (nOf day) number y)
-    then overPositions (closedVerdict day x number y)
-    then broken (rule15 x head y) 15 number 0
+unfoldable pub limitVerdict : (n : ℕ) (r : Block) (seen : List Block) (number : ℕ) (y : Block) (k : ℕ) → Verdict
+limitVerdict n r seen number y k = broken (rule19 n r seen y k) 19 number (k + 1)
 
-unfoldable pub seriesVerdict : (day : Block) (own : List Block) (head : Block) (seen : List Block) (number : ℕ) (y : Block) → Verdict
-seriesVerdict day own head seen number y = formVerdict day own head seen number y then valuesVerdict day (storedOf own y) head number y
+-- "19 above the limit, its position given": the lowest
+unfoldable pub rightVerdict : (n : ℕ) (rights : List Block) (seen : List Block) (number : ℕ) (y : Block) → Verdict
+rightVerdict n rights seen number y =
+    broken (rule18 rights y) 18 number 0 then overPositions (limitVerdict n (rightFor rights y) seen number y)
+
+unfoldable pub lateVerdict : (day : Block) (x : Block) (head : Block) (number : ℕ) (y : Block) → Verdict
+lateVerdict day x head number y = overPositions (closedVerdict day x number y) then broken (rule15 x head y) 15 number 0
+
+unfoldable pub valuesVerdict : (day : Block) (x : Block) (rights : List Block) (head : Block) (seen : List Block) (number : ℕ) (y : Block) → Verdict
+valuesVerdict day x rights head seen number y =
+    overPositions (quantityVerdict (nOf day) number y)
+    then rightVerdict (nOf day) rights seen number y
+    then lateVerdict day x head number y
+
+unfoldable pub seriesVerdict : (day : Block) (own : List Block) (rights : List Block) (head : Block) (seen : List Block) (number : ℕ) (y : Block) → Verdict
+seriesVerdict day own rights head seen number y =
+    formVerdict day own head seen number y then valuesVerdict day (storedOf own y) rights head seen number y
 
 -- "one series passes 7 to 15 before the next begins"; ys are those from number on
-unfoldable pub eachSeries : (day : Block) (own : List Block) (head : Block) (seen : List Block) (number : ℕ) (ys : List Block) → Verdict
-eachSeries day own head seen number [] = fine
-eachSeries day own head seen number (y ∷ ys) =
-    seriesVerdict day own head seen number y then eachSeries day own head (seen ++ y ∷ []) (number + 1) ys
+unfoldable pub eachSeries : (day : Block) (own : List Block) (rights : List Block) (head : Block) (seen : List Block) (number : ℕ) (ys : List Block) → Verdict
+eachSeries day own rights head seen number [] = fine
+eachSeries day own rights head seen number (y ∷ ys) =
+    seriesVerdict day own rights head seen number y then eachSeries day own rights head (seen ++ y ∷ []) (number + 1) ys
 
 unfoldable pub lastVerdict : (known : Block) (own : List Block) (free : ℕ) (series : List Block) → Verdict
 lastVerdict known own free series = broken (rule16 own series) 16 0 0 then broken (rule17 known own free series) 17 0 0
 
--- "Past rule 1, a submission's answer depends only on" these: the day block, the sender's own stored blocks, the number of free slots, the message
-unfoldable pub judge : (day : Block) (known : Block) (own : List Block) (free : ℕ) (head : Block) (series : List Block) → Verdict
-judge day known own free head series = headVerdict day known head then eachSeries day own head [] 1 series then lastVerdict known own free series
+-- "Past rule 1, a submission's answer depends only on" these: the day block, the sender's own stored blocks, "the sender's own rights", the number of free
+-- slots, the message
+unfoldable pub judge : (day : Block) (known : Block) (own : List Block) (rights : List Block) (free : ℕ) (head : Block) (series : List Block) → Verdict
+judge day known own rights free head series =
+    headVerdict day known head then eachSeries day own rights head [] 1 series then lastVerdict known own free series
 
 unfoldable pub verdict : (book : Bytes) (message : Bytes) → Verdict
 verdict book message =
     broken (rule1 book) 1 0 0
     then broken (rule2 message) 2 0 0
-    then judge (dayBlock book) (ownSender (used book) (sender (headOf message))) (ownSeries (used book) (sender (headOf message))) (freeSlots book) (headOf message) (seriesOf message)
+    then judge (dayBlock book) (ownSender (used book) (sender (headOf message))) (ownSeries (used book) (sender (headOf message))) (ownRights (used book) (sender (headOf message))) (freeSlots book) (headOf message) (seriesOf message)

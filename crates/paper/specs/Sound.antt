@@ -1,4 +1,4 @@
--- "Sound book". day is the day block, us are the used slots, s is a sender block and x a series block among them.
+-- "Sound book". day is the day block, us are the used slots, s is a sender block, x a series block and r a rights block among them; ours is the day block's area.
 use mathlib.Core.Bool.{Bool, cond}
 use mathlib.Core.List.{List}
 use Prim.Native.Nat.{ℕ}
@@ -6,11 +6,11 @@ use lib.ListN.{length, take, drop}
 use Rattle.laws.specs.Tests.{_and_, _or_, neg, is, upto}
 use Rattle.laws.specs.Lists.{same, every, apart, count}
 use Rattle.paper.specs.Check.{checkRight}
-use Rattle.paper.specs.Layout.{Bytes, Block, blocks, zeros, kind, nOf, lead, clockPlus10080, ruleOf, dayOfBook, area, receiver, dayZeros, version, idOf, seriesCount, sender, dayOfMessage, senderZeros, businessType, contractType, sendersSlot, inArea, outArea, inParty, outParty, pair, agreement, differing, first, partner}
-use Rattle.paper.specs.Ranges.{wholeBlocks, nAllowed, leadAllowed, clockAllowed, ruleAllowed, versionAllowed, countAllowed, quantitiesAllowed, netsAllowed}
+use Rattle.paper.specs.Layout.{Bytes, Block, blocks, zeros, kind, nOf, lead, clockPlus10080, ruleOf, dayOfBook, area, receiver, dayZeros, version, idOf, seriesCount, sender, dayOfMessage, senderZeros, businessType, contractType, sendersSlot, inArea, outArea, inParty, outParty, pair, key, agreement, differing, first, partner, rightZeros, butLimits, holder}
+use Rattle.paper.specs.Ranges.{wholeBlocks, nAllowed, leadAllowed, clockAllowed, ruleAllowed, versionAllowed, contractAllowed, countAllowed, quantitiesAllowed, netsAllowed}
 use Rattle.paper.specs.Ids.{idWellFormed, dayWellFormed}
 use Rattle.paper.specs.Eic.{eicValid}
-use Rattle.paper.specs.Book.{dayBlock, slots, isFree, used, isSender, isSeries, numbered, slotOf, isSeriesOf}
+use Rattle.paper.specs.Book.{dayBlock, slots, isFree, used, isSender, isSeries, isRight, isTrade, withCapacity, isExternal, numbered, slotOf, isSeriesOf}
 
 -- ---- "day block as above with valid EICs"
 
@@ -44,25 +44,46 @@ senderSound day us s = senderFields day s and senderDayAndNets day s and countSo
 
 -- ---- a series block
 
--- two distinct parties of which one is e
-unfoldable pub partiesOf : (e : Bytes) (parties : Bytes) → Bool
-partiesOf e parties = neg (same (take 16 parties) (drop 16 parties)) and (same (take 16 parties) e or same (drop 16 parties) e)
+-- two parties of which one is e; distinct, but of an external schedule "in and out party may both be the sender"
+unfoldable pub partiesOf : (external : Bool) (e : Bytes) (parties : Bytes) → Bool
+partiesOf external e parties =
+    (external or neg (same (take 16 parties) (drop 16 parties))) and (same (take 16 parties) e or same (drop 16 parties) e)
+
+-- "For rights, A03 and A06, exactly one area is ours, the other a valid EIC"
+unfoldable pub oneAreaOurs : (ours : Bytes) (x : Block) → Bool
+oneAreaOurs ours x =
+    cond (same (inArea x) ours) (neg (same (outArea x) ours) and eicValid (outArea x)) (same (outArea x) ours and eicValid (inArea x))
+
+-- "area (a series' two areas) … equal to the day block's", of an external schedule one of them
+unfoldable pub areasAllowed : (ours : Bytes) (x : Block) → Bool
+areasAllowed ours x = cond (isExternal x) (oneAreaOurs ours x) (same (inArea x) ours and same (outArea x) ours)
+
+-- "business type 2", and "A06 (no capacity) and A03 (with capacity)"
+unfoldable pub typeAllowed : (x : Block) → Bool
+typeAllowed x = isTrade x or isExternal x
+
+-- contract type and agreement of a right, and of a series on one
+unfoldable pub capacityNamed : (x : Block) → Bool
+capacityNamed x = contractAllowed (contractType x) and idWellFormed (agreement x)
+
+-- "capacity fields zero", but for A03
+unfoldable pub capacityAllowed : (x : Block) → Bool
+capacityAllowed x = cond (withCapacity x) (capacityNamed x) (is (contractType x) 0 and zeros (agreement x))
 
 -- "each series names a sender's slot, has two distinct … parties of which one is that sender"
 unfoldable pub ownerSound : (us : List Block) (x : Block) → Bool
-ownerSound us x = isSender (numbered us (sendersSlot x)) and partiesOf (sender (numbered us (sendersSlot x))) (pair x)
+ownerSound us x = isSender (numbered us (sendersSlot x)) and partiesOf (isExternal x) (sender (numbered us (sendersSlot x))) (pair x)
 
 -- "partner 0 or a series slot"
 unfoldable pub partnerSound : (us : List Block) (x : Block) → Bool
 partnerSound us x = is (partner x) 0 or isSeries (numbered us (partner x))
 
--- "business type 2"; "capacity fields zero": the contract type here, the agreement below
 unfoldable pub seriesFields : (day : Block) (x : Block) → Bool
-seriesFields day x = is (nOf x) (nOf day) and versionAllowed (version x) and is (businessType x) 2 and is (contractType x) 0 and idWellFormed (idOf x)
+seriesFields day x = is (nOf x) (nOf day) and versionAllowed (version x) and typeAllowed x and capacityAllowed x and idWellFormed (idOf x)
 
--- "area (a series' two areas) … equal to the day block's"; "valid parties"
+-- "valid parties"
 unfoldable pub seriesCodes : (day : Block) (x : Block) → Bool
-seriesCodes day x = same (inArea x) (area day) and same (outArea x) (area day) and eicValid (inParty x) and eicValid (outParty x) and zeros (agreement x)
+seriesCodes day x = areasAllowed (area day) x and eicValid (inParty x) and eicValid (outParty x)
 
 -- "first at most n"
 unfoldable pub seriesValues : (day : Block) (x : Block) → Bool
@@ -71,19 +92,34 @@ seriesValues day x = upto (first x) (nOf day) and quantitiesAllowed (nOf day) x
 unfoldable pub seriesSound : (day : Block) (us : List Block) (x : Block) → Bool
 seriesSound day us x = seriesFields day x and seriesCodes day x and seriesValues day x and ownerSound us x and partnerSound us x
 
+-- ---- a rights block
+
+-- "type 3 …, version, slot, id and mark 0"; "contract type (1–99), agreement"
+unfoldable pub rightFields : (day : Block) (r : Block) → Bool
+rightFields day r = is (nOf r) (nOf day) and withCapacity r and capacityNamed r and rightZeros r
+
+-- "holder as both parties", a valid EIC; "areas"; "a limit per position"
+unfoldable pub rightSound : (day : Block) (r : Block) → Bool
+rightSound day r =
+    rightFields day r and oneAreaOurs (area day) r and eicValid (holder r) and same (outParty r) (holder r) and quantitiesAllowed (nOf day) r
+
 -- ---- the book
 
--- a used slot holds a sender or a series
+-- a used slot holds a sender, a right or a series: "Soundness admits kind 4 and these series"
 unfoldable pub usedSound : (day : Block) (us : List Block) (b : Block) → Bool
-usedSound day us b = cond (isSender b) (senderSound day us b) (isSeries b and seriesSound day us b)
+usedSound day us b = cond (isSender b) (senderSound day us b) (cond (isRight b) (rightSound day b) (isSeries b and seriesSound day us b))
 
 -- "sender EICs … distinct": a and b are senders with one EIC
 unfoldable pub sameSender : (a : Block) (b : Block) → Bool
 sameSender a b = isSender a and isSender b and same (sender a) (sender b)
 
--- "within a sender no series id twice and no (in party, out party) pair twice": a and b are series of one sender with one id or one pair
+-- "within a sender no series id twice and no … pair twice", in whose place "the key grows": a and b are series of one sender with one id or one key
 unfoldable pub sameSeries : (a : Block) (b : Block) → Bool
-sameSeries a b = isSeries a and isSeries b and is (sendersSlot a) (sendersSlot b) and (same (idOf a) (idOf b) or same (pair a) (pair b))
+sameSeries a b = isSeries a and isSeries b and is (sendersSlot a) (sendersSlot b) and (same (idOf a) (idOf b) or same (key a) (key b))
+
+-- "equal to a stored right in all but limits", which is "entered once": a and b are two such rights
+unfoldable pub sameRight : (a : Block) (b : Block) → Bool
+sameRight a b = isRight a and isRight b and same (butLimits a) (butLimits b)
 
 -- byte 104 of a block that is a series: allowed is the test of it, which is told n
 unfoldable pub differingSound : (allowed : ℕ → ℕ → Bool) (n : ℕ) (b : Block) → Bool
@@ -99,6 +135,7 @@ soundOver allowed book =
     and every (usedSound (dayBlock book) (used book)) (used book)
     and apart sameSender (used book)
     and apart sameSeries (used book)
+    and apart sameRight (used book)
     and every (differingSound allowed (nOf (dayBlock book))) (used book)
 
 -- "Soundness asks byte 104 at most n"

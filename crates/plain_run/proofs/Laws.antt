@@ -3,7 +3,7 @@ use Rattle.laws.specs.Kit.{_≡_, ap, _∙_, Bool, true, false, _&&_, ℕ, _/_,
 use Rattle.laws.specs.Lists.{every}
 use Rattle.laws.specs.Bytes.{part}
 use Rattle.laws.specs.Cut.{cut}
-use Rattle.paper.specs.Layout.{Bytes, nOf}
+use Rattle.paper.specs.Layout.{Bytes, nOf, area}
 use Rattle.paper.specs.Book.{dayBlock, used}
 use Rattle.paper.specs.Sound.{sound}
 use Rattle.paper.specs.PlainRun.{markTrue, netsTrue, plainRun}
@@ -28,8 +28,12 @@ pub not-sound : (book : Bytes) → sound book ≡ false → record { number = 1;
 unfolding plainRun
 not-sound book e = rw e
 
--- n of the day, the used slots us, and what is found of their marks m and of their nets t
-pub found : (book us : Bytes) (n : ℕ) (m t : Bool) → sound book ≡ true → n ≡ nOf (dayBlock book) → cut 512 us ≡ used book
-    → m ≡ every (markTrue n (cut 512 us)) (cut 512 us) → t ≡ every (netsTrue (cut 512 us)) (cut 512 us) → record { number = 0; holds = m && t } ≡ plainRun book
+pub area-day : (book p ours : Bytes) → ours ≡ area p → p ≡ part 0 512 book → ours ≡ area (dayBlock book)
+unfolding dayBlock part
+area-day book p ours e q = e ∙ ap area q
+
+-- n and area of the day, the used slots us, and what is found of their marks m and of their nets t
+pub found : (book ours us : Bytes) (n : ℕ) (m t : Bool) → sound book ≡ true → n ≡ nOf (dayBlock book) → ours ≡ area (dayBlock book) → cut 512 us ≡ used book
+    → m ≡ every (markTrue n (cut 512 us)) (cut 512 us) → t ≡ every (netsTrue ours (cut 512 us)) (cut 512 us) → record { number = 0; holds = m && t } ≡ plainRun book
 unfolding plainRun _and_
-found book us n m t e d u p q = rw (e, ← d, ← u, ← p, ← q)
+found book ours us n m t e d o u p q = rw (e, ← d, ← o, ← u, ← p, ← q)

@@ -12,6 +12,7 @@ use field::part_of;
 use index::link_series;
 use index::no_heads;
 use index::no_nexts;
+use layout::area;
 use layout::n_of;
 use marks::mark_true;
 use nets::nets_true;
@@ -46,16 +47,16 @@ fn marks_true(n: usize, us: &[u8]) -> bool
     every_mark_true(n, us, &heads, &nexts)
 }
 
-// Goes on in the same way.
-fn every_net_true(us: &[u8]) -> bool
+// Goes on in the same way. `ours` is the day block's area.
+fn every_net_true(ours: &[u8], us: &[u8]) -> bool
     requires { ⌜ length (now us) ≤ 268435456 ⌝ }
-    ensures { λ r. ⌜ r ≡ every (netsTrue (cut 512 (now (us .entry)))) (cut 512 (now (us .entry))) ⌝ }
+    ensures { λ r. ⌜ r ≡ every (netsTrue (now (ours .entry)) (cut 512 (now (us .entry)))) (cut 512 (now (us .entry))) ⌝ }
 {
     let many = us.len() / 512;
     let mut ok = true;
     let mut i = 0;
     while i < many {
-        ok = ok & nets_true(us, block_at(us, i));
+        ok = ok & nets_true(ours, us, block_at(us, i));
         i += 1;
     }
     ok
@@ -71,10 +72,11 @@ pub fn plain_run(book: &[u8]) -> PlainRunAnswer
             holds: false,
         };
     }
-    let n = n_of(part_of(book, 0, 512)) as usize;
+    let day = part_of(book, 0, 512);
+    let n = n_of(day) as usize;
     let us = used_part(book);
     PlainRunAnswer {
         number: 0,
-        holds: marks_true(n, us) & every_net_true(us),
+        holds: marks_true(n, us) & every_net_true(area(day), us),
     }
 }

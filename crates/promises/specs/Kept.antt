@@ -4,22 +4,23 @@
 use Rattle.laws.specs.Base.{_≡_, true, cond, none, some, Option·getD, Option·map, List, [], ℕ, _<_}
 use Rattle.laws.specs.Tests.{is}
 use Rattle.laws.specs.Lists.{find, nth}
-use Rattle.paper.specs.Layout.{Bytes, Block, net, pair}
-use Rattle.paper.specs.Book.{dayBlock, used, isSenderBlockOf, slotOf, isSeriesOfPair}
+use Rattle.paper.specs.Layout.{Bytes, Block, area, net, pair}
+use Rattle.paper.specs.Book.{dayBlock, used, isSenderBlockOf, trade, slotOf, isTradeOf}
 use Rattle.paper.specs.Sound.{sound}
 use Rattle.paper.specs.Nets.{bought, sold}
 use Rattle.paper.specs.Acceptance.{submitted}
 use Rattle.paper.specs.Finals.{final}
 use Rattle.paper.specs.Opening.{Opening, openNumber, opened}
 use Rattle.paper.specs.Clock.{clockMoved}
+use Rattle.paper.specs.Rights.{entered}
 use Rattle.paper.specs.Conversion.{conversionNumber, converted, keptMessages}
 use Rattle.paper.specs.Readings.{storedAs, markAnswer, acceptedBlock}
 use Rattle.paper.specs.PlainRule.{latest, seriesOfLatest, otherParty}
 use Rattle.facts.specs.Sound.{is-sound, sound-says}
 use Rattle.facts.specs.Nets.{SignedSum}
 use Rattle.facts.specs.Conversion.{conversion-refused}
-use Rattle.promises.specs.Laws.Finals.{later-refl, later-trans, later-clock, later-submission, later-conversion, final-carried, final-converted}
-use Rattle.promises.specs.Laws.Invariant.{Invariant, invariant-opened, invariant-converted, opening-kept, clock-kept, submission-kept, conversion-kept}
+use Rattle.promises.specs.Laws.Finals.{later-refl, later-trans, later-clock, later-submission, later-entering, later-conversion, final-carried, final-converted}
+use Rattle.promises.specs.Laws.Invariant.{Invariant, invariant-opened, invariant-converted, opening-kept, clock-kept, submission-kept, entering-kept, conversion-kept}
 use Rattle.promises.specs.Laws.Readings.{stored-plain, accepted-block-plain, accepted-block-none, mark-reading, partner-reading, net-reading, final-reading}
 use Rattle.promises.specs.Words.{content, finalGiven, messagesAfter, Later, plainStoredAs, plainMarkAnswer, plainFinal}
 
@@ -50,6 +51,9 @@ module _ (book : Bytes) (messages : List Bytes) (holds : Invariant book messages
   pub submission-keeps : (message : Bytes) → Invariant (submitted book message) (messagesAfter book message messages) × Later book (submitted book message)
   submission-keeps message = (submission-kept book messages message holds, later-submission book message)
 
+  pub entering-keeps : (block : Bytes) → Invariant (entered book block) messages × Later book (entered book block)
+  entering-keeps block = (entering-kept book messages block holds, later-entering book block)
+
   pub conversion-keeps : Invariant (converted book) (cond (is (conversionNumber book) 0) (keptMessages (used (converted book))) messages)
       × Later book (converted book)
   conversion-keeps = (conversion-kept book messages holds, later-conversion book)
@@ -70,14 +74,14 @@ module _ (book : Bytes) (messages : List Bytes) (holds : Invariant book messages
   pub mark-as-ruled : (e id : Bytes) → markAnswer book e id ≡ plainMarkAnswer messages e id ((markAnswer book e id) .partner .0)
   mark-as-ruled = mark-reading book messages holds
 
-  -- and that slot holds the series of the other party with the same pair; it is 0, which no slot is, where there is none
+  -- and that slot holds the trade of the other party with the same pair; it is 0, which no slot is, where there is none
   pub partner-as-ruled : (e id : Bytes) (y : Block) → plainStoredAs messages e id ≡ some y
-      → nth (used book) ((markAnswer book e id) .partner .0) ≡ find (isSeriesOfPair (slotOf (used book) (otherParty e (pair y))) (pair y)) (used book)
+      → nth (used book) ((markAnswer book e id) .partner .0) ≡ find (isTradeOf (slotOf (used book) (otherParty e (pair y))) (trade y)) (used book)
   partner-as-ruled = partner-reading book messages holds
 
   -- each net of a stored sender, at position k + 1, is the signed sum of the quantities that it last sent
   pub net-as-summed : (e : Bytes) (s : Block) → find (isSenderBlockOf e) (used book) ≡ some s → (k : ℕ) → k < 100
-      → SignedSum (net s k) (bought e (seriesOfLatest (latest e messages)) k) (sold e (seriesOfLatest (latest e messages)) k)
+      → SignedSum (net s k) (bought (area (dayBlock book)) e (seriesOfLatest (latest e messages)) k) (sold (area (dayBlock book)) e (seriesOfLatest (latest e messages)) k)
   net-as-summed = net-reading book messages holds
 
   -- a final is worked out from what each party last sent

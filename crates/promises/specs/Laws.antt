@@ -11,6 +11,7 @@ pub mod SoundBytes
 pub mod SoundApart
 pub mod SoundSlots
 pub mod SoundSeries
+pub mod SoundRights
 pub mod Sums
 pub mod Nets
 pub mod SoundSenders
@@ -25,12 +26,16 @@ pub mod SoundConverted
 pub mod NetsTrue
 pub mod PlainRun
 pub mod Conversion
+pub mod Entering
 pub mod KeptMessages
 pub mod Invariant
 pub mod PlainMarks
 pub mod Looks
 pub mod Readings
 pub mod Finals
+-- rights
+pub mod OwnRights
+pub mod Limits
 -- isolation, determinacy
 pub mod Contents
 pub mod Isolation

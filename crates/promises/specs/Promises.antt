@@ -1,13 +1,13 @@
 -- THE PAGE OF PROMISES. Each promise is stated in the words of `paper`, with a few more that stand in Words; each proof is one line that cites the file that carries
 -- the weight.
-use Rattle.laws.specs.Base.{_≡_, true, false, none, some, Option·getD, Option·map, List, [], _∷_, ℕ, _+_, _*_, _≤_, _<_, length, drop, getD}
+use Rattle.laws.specs.Base.{_≡_, true, false, none, some, Option·getD, Option·map, List, [], _∷_, _++_, ℕ, _+_, _*_, _≤_, _<_, length, drop, getD}
 use Rattle.laws.specs.Lists.{find, nth, All}
 use Rattle.laws.specs.Bytes.{little}
-use Rattle.paper.specs.Layout.{Bytes, Block, ruleOf, sellersRule, lesserRule, sender, nets, net, sendersSlot, pair, mark, partner, quantities, quantity}
-use Rattle.paper.specs.Book.{dayBlock, used, freeSlots, isSender, isSeries, isSenderBlockOf, slotOf, isSeriesOf, isSeriesOfPair, ownSender, ownSeries}
+use Rattle.paper.specs.Layout.{Bytes, Block, nOf, limit, area, ruleOf, sellersRule, lesserRule, sender, nets, net, sendersSlot, pair, key, mark, partner, quantities, quantity}
+use Rattle.paper.specs.Book.{dayBlock, used, freeSlots, isSender, isSeries, isRight, isTrade, trade, isRightOf, isSenderBlockOf, slotOf, isSeriesOf, isSeriesWith, isTradeOf, ownSender, ownSeries, ownRights}
 use Rattle.paper.specs.Sound.{sound}
 use Rattle.paper.specs.Message.{headOf, seriesOf}
-use Rattle.paper.specs.Rules.{numberOf, verdict}
+use Rattle.paper.specs.Rules.{numberOf, sumOn, verdict}
 use Rattle.paper.specs.Marks.{isCounterpart, counterpartSlot, firstDifference, differences, markOf}
 use Rattle.paper.specs.Nets.{bought, sold, netOf}
 use Rattle.paper.specs.Acceptance.{accepted, submitted}
@@ -17,31 +17,36 @@ use Rattle.paper.specs.Finals.{lesserOf, finalOf, held, final}
 use Rattle.paper.specs.Readings.{markAnswer, acceptedBlock}
 use Rattle.paper.specs.Opening.{Opening, openNumber, opened}
 use Rattle.paper.specs.Clock.{clockAnswer, clockMoved}
+use Rattle.paper.specs.Rights.{enterNumber, entered}
 use Rattle.paper.specs.Conversion.{conversionNumber, converted, keptMessages}
 use Rattle.paper.specs.PlainRule.{latest, seriesOfLatest, plainHeld, otherParty, plainMark, plainNets}
 use Rattle.paper.specs.Calls.{Call, Desk, run}
 use Rattle.facts.specs.Sound.{sound-says}
 use Rattle.facts.specs.Verdict.{accepts}
+use Rattle.facts.specs.Calls.{moves}
+use Rattle.facts.specs.Rights.{enters, entering-refused}
 use Rattle.facts.specs.Conversion.{converts, conversion-refused}
 use Rattle.facts.specs.Marks.{Agree, Differ, no-difference-agree, difference-differ, agree-no-differences, no-differences-agree, no-differences-no-difference, no-difference-no-differences, differences-most, mark-agree, mark-differ}
 use Rattle.facts.specs.Nets.{SignedSum, net-signed}
 use Rattle.facts.specs.Looks.{found-counterpart}
 use Rattle.facts.specs.Finals.{lesser-below-sellers, lesser-below-buyers, lesser-greatest, final-by-sellers, final-by-lesser}
-use Rattle.promises.specs.Laws.Conversion.{series-stays, sender-stays, true-book-stays}
+use Rattle.promises.specs.Laws.Conversion.{series-stays, sender-stays, right-stays, true-book-stays}
+use Rattle.promises.specs.Laws.Entering.{used-entered, day-block-entered, rest-entered, entered-sound}
 use Rattle.promises.specs.Laws.Finals.{rule-stays, final-stays}
 use Rattle.promises.specs.Laws.Invariant.{Invariant, held-plain, content-plain, invariant-run, invariant-begun}
 use Rattle.promises.specs.Laws.Isolation.{verdict-isolated, determined}
 use Rattle.promises.specs.Laws.KeptMessages.{head-of-latest-kept, series-of-latest-kept}
+use Rattle.promises.specs.Laws.Limits.{sums-within, sum-small}
 use Rattle.promises.specs.Laws.Looks.{verdict-answered, looked-refused, looked-accepted, looked-most, partner-of-own, partner-of-counterpart}
-use Rattle.promises.specs.Laws.Others.{others-kept, rest-kept}
+use Rattle.promises.specs.Laws.Others.{others-kept, right-kept, rest-kept}
 use Rattle.promises.specs.Laws.PlainMarks.{sender-named, mark-plain, partner-plain, says-yes}
 use Rattle.promises.specs.Laws.ReadBack.{day-block-accepted}
 use Rattle.promises.specs.Laws.Refusals.{opening-refused, clock-refused, submission-refused}
-use Rattle.promises.specs.Laws.Soundness.{opened-sound, opened-rule, moved-sound, submitted-sound}
+use Rattle.promises.specs.Laws.Soundness.{opened-sound, opened-rule, moved-sound, used-moved, submitted-sound}
 use Rattle.promises.specs.Laws.ConvertedSlots.{used-converted-length, day-block-converted, converted-book-length, rest-converted}
 use Rattle.promises.specs.Laws.SoundConverted.{converted-sound}
 use Rattle.promises.specs.Kept.{sound-book, accepted-block-as-sent, no-accepted-block, mark-as-ruled, partner-as-ruled, net-as-summed, final-as-sent, final-after-conversion}
-use Rattle.promises.specs.Words.{content, SameContents, headContent, ButMark, Starts, begun, reached, Unopened, finalGiven, plainContent, plainHeadContent, plainStoredAs, plainMarkAnswer, plainFinal, isCounterpartOf, Determines}
+use Rattle.promises.specs.Words.{content, SameContents, SameRights, headContent, ButMark, Starts, begun, reached, Unopened, finalGiven, plainContent, plainHeadContent, plainStoredAs, plainMarkAnswer, plainFinal, isCounterpartOf, Determines}
 
 -- ---- 1. Soundness is kept, and a refusal changes nothing
 
@@ -57,6 +62,9 @@ clock-move-keeps-soundness = moved-sound
 pub submission-keeps-soundness : (book message : Bytes) → numberOf (verdict book message) ≡ 0 → sound (submitted book message) ≡ true
 submission-keeps-soundness = submitted-sound
 
+pub entering-keeps-soundness : (book block : Bytes) → enterNumber book block ≡ 0 → sound (entered book block) ≡ true
+entering-keeps-soundness = entered-sound
+
 pub conversion-gives-a-sound-book : (book : Bytes) → conversionNumber book ≡ 0 → sound (converted book) ≡ true
 conversion-gives-a-sound-book = converted-sound
 
@@ -69,12 +77,15 @@ refused-clock-move-changes-nothing = clock-refused
 pub refused-submission-changes-nothing : (book message : Bytes) → (numberOf (verdict book message) ≡ 0 → ⊥) → submitted book message ≡ book
 refused-submission-changes-nothing = submission-refused
 
+pub refused-entering-changes-nothing : (book block : Bytes) → (enterNumber book block ≡ 0 → ⊥) → entered book block ≡ book
+refused-entering-changes-nothing = entering-refused
+
 pub refused-conversion-changes-nothing : (book : Bytes) → (conversionNumber book ≡ 0 → ⊥) → converted book ≡ book
 refused-conversion-changes-nothing = conversion-refused
 
 -- ---- 2. Demand 3, marks and nets
 -- For every buffer, every start, which is an accepted opening or an accepted conversion, and every sequence of calls after it: openings, conversions, clock moves,
--- submissions and readings, accepted or refused, in any order, with any contents.
+-- submissions, rights entered and readings, accepted or refused, in any order, with any contents.
 -- `book` is the book after them and `messages` are those accepted since the last accepted opening or conversion, oldest first; a conversion begins them with one message
 -- for each sender, made of the blocks that it kept. The plain rule reads these messages and nothing of the book. What one call keeps of this stands in Kept, for
 -- promises on calls to cite.
@@ -88,10 +99,10 @@ module _ (buffer : Bytes) (start : Call) (starts : Starts buffer start) (calls :
   pub reached-book-is-sound : sound book ≡ true
   reached-book-is-sound = sound-book _ _ holds
 
-  -- the stored series are those of each sender's latest accepted message: under every sender e and pair p the book has a series exactly where that message has
+  -- the stored series are those of each sender's latest accepted message: under every sender e and key k the book has a series exactly where that message has
   -- one, with the same bytes but for sender's slot, mark and check, and so with the same quantities
-  pub stored-series-are-the-latest-messages : (e p : Bytes)
-      → Option·map content (find (isSeriesOfPair (slotOf (used book) e) p) (used book)) ≡ plainContent messages e p
+  pub stored-series-are-the-latest-messages : (e k : Bytes)
+      → Option·map content (find (isSeriesWith (slotOf (used book) e) k) (used book)) ≡ plainContent messages e k
   stored-series-are-the-latest-messages = content-plain _ _ holds
 
   pub stored-quantities-are-the-latest-messages : (e p : Bytes) → held (used book) e p ≡ plainHeld messages e p
@@ -107,24 +118,24 @@ module _ (buffer : Bytes) (start : Call) (starts : Starts buffer start) (calls :
 
   -- the mark kept beside it is the plain rule's, the slot in it apart: the count of the positions that differ and the first of them
   pub marks-are-the-plain-rules : (slot : ℕ) (x : Block) → nth (used book) slot ≡ some x → isSeries x ≡ true → (e : Bytes) → slotOf (used book) e ≡ sendersSlot x
-      → mark x ≡ plainMark messages e (pair x) (partner x)
+      → mark x ≡ plainMark messages e (trade x) (partner x)
   marks-are-the-plain-rules = mark-plain _ _ holds
 
-  -- that slot holds the series which the plain rule found: the other party's, with the same pair and with the quantities q that it last sent. By this a series whose
-  -- counterpart agrees is told from one that stands alone
+  -- that slot holds, for a trade, the series which the plain rule found: the other party's, with the same pair and with the quantities q that it last sent. By this a
+  -- series whose counterpart agrees is told from one that stands alone
   pub partners-are-the-plain-rules : (slot : ℕ) (x : Block) → nth (used book) slot ≡ some x → isSeries x ≡ true → (e : Bytes) → slotOf (used book) e ≡ sendersSlot x
-      → (q : Bytes) → plainHeld messages (otherParty e (pair x)) (pair x) ≡ some q
+      → isTrade x ≡ true → (q : Bytes) → plainHeld messages (otherParty e (pair x)) (pair x) ≡ some q
       → (y : Block) × (nth (used book) (partner x) ≡ some y) × (isSeries y ≡ true) × (slotOf (used book) (otherParty e (pair x)) ≡ sendersSlot y)
-      × (pair y ≡ pair x) × (quantities y ≡ q)
+      × (trade y ≡ trade x) × (quantities y ≡ q)
   partners-are-the-plain-rules = partner-plain _ _ holds
 
   -- the nets kept for each sender, at all positions, are the plain rule's
-  pub nets-are-the-plain-rules : (e : Bytes) → Option·map nets (find (isSenderBlockOf e) (used book)) ≡ plainNets messages e
+  pub nets-are-the-plain-rules : (e : Bytes) → Option·map nets (find (isSenderBlockOf e) (used book)) ≡ plainNets (area (dayBlock book)) messages e
   nets-are-the-plain-rules = holds .plain
 
   -- and at each position, k + 1, a sender's net is the signed sum of the quantities that it last sent
   pub kept-nets-are-signed-sums : (e : Bytes) (s : Block) → find (isSenderBlockOf e) (used book) ≡ some s → (k : ℕ) → k < 100
-      → SignedSum (net s k) (bought e (seriesOfLatest (latest e messages)) k) (sold e (seriesOfLatest (latest e messages)) k)
+      → SignedSum (net s k) (bought (area (dayBlock book)) e (seriesOfLatest (latest e messages)) k) (sold (area (dayBlock book)) e (seriesOfLatest (latest e messages)) k)
   kept-nets-are-signed-sums = net-as-summed _ _ holds
 
   -- and so are the readings by sender and id: the accepted block is the series that the sender's latest message has under the id, sender's slot, mark and check
@@ -139,9 +150,9 @@ module _ (buffer : Bytes) (start : Call) (starts : Starts buffer start) (calls :
   pub mark-answers-are-the-plain-rules : (e id : Bytes) → markAnswer book e id ≡ plainMarkAnswer messages e id ((markAnswer book e id) .partner .0)
   mark-answers-are-the-plain-rules = mark-as-ruled _ _ holds
 
-  -- and that slot holds the series of the other party with the same pair; it is 0, which no slot is, where there is none
+  -- and that slot holds the trade of the other party with the same pair; it is 0, which no slot is, where there is none
   pub partners-answered-are-the-plain-rules : (e id : Bytes) (y : Block) → plainStoredAs messages e id ≡ some y
-      → nth (used book) ((markAnswer book e id) .partner .0) ≡ find (isSeriesOfPair (slotOf (used book) (otherParty e (pair y))) (pair y)) (used book)
+      → nth (used book) ((markAnswer book e id) .partner .0) ≡ find (isTradeOf (slotOf (used book) (otherParty e (pair y))) (trade y)) (used book)
   partners-answered-are-the-plain-rules = partner-as-ruled _ _ holds
 
   -- a final is worked out from what each party last sent
@@ -166,12 +177,13 @@ module _ (buffer : Bytes) (start : Call) (starts : Starts buffer start) (calls :
   plain-run-says-yes = says-yes _ _ holds
 
 -- ---- 5. Isolation: two sound books give one answer to one message if they agree in the day block, in the number of free slots and in what is stored of the
--- message's sender: its sender block but for nets and check, and the contents of its series (all bytes but sender's slot, mark and check), in whatever order.
--- Of a sender that is not stored the sender block is the empty block, and there are no series
+-- message's sender: its sender block but for nets and check, the contents of its series (all bytes but sender's slot, mark and check) and its own rights, in whatever
+-- order. So no right of another sender changes an answer. Of a sender that is not stored the sender block is the empty block, and there are no series
 
 pub answers-are-isolated : (book other message : Bytes) → sound book ≡ true → sound other ≡ true → dayBlock book ≡ dayBlock other
     → headContent (ownSender (used book) (sender (headOf message))) ≡ headContent (ownSender (used other) (sender (headOf message)))
     → SameContents (ownSeries (used book) (sender (headOf message))) (ownSeries (used other) (sender (headOf message)))
+    → SameRights (ownRights (used book) (sender (headOf message))) (ownRights (used other) (sender (headOf message)))
     → freeSlots book ≡ freeSlots other → verdict book message ≡ verdict other message
 answers-are-isolated = verdict-isolated
 
@@ -190,6 +202,18 @@ day-block-stays book message e = day-block-accepted book message (accepts book m
 pub free-slots-stay : (book message : Bytes) → numberOf (verdict book message) ≡ 0
     → drop (512 + 512 * length (used (accepted book message))) (accepted book message) ≡ drop (512 + 512 * length (used (accepted book message))) book
 free-slots-stay book message e = rest-kept book message (accepts book message e)
+
+-- A right that is entered stands in the lowest free slot as it was given; the day block, every used slot and everything behind that one stay
+
+pub an-entered-right-takes-the-lowest-free-slot : (book block : Bytes) → enterNumber book block ≡ 0 → used (entered book block) ≡ used book ++ block ∷ []
+an-entered-right-takes-the-lowest-free-slot book block e = used-entered book block (enters book block e)
+
+pub entering-keeps-the-day-block : (book block : Bytes) → enterNumber book block ≡ 0 → dayBlock (entered book block) ≡ dayBlock book
+entering-keeps-the-day-block book block e = day-block-entered book block (enters book block e)
+
+pub entering-keeps-the-rest : (book block : Bytes) → enterNumber book block ≡ 0
+    → drop (512 + 512 * length (used (entered book block))) (entered book block) ≡ drop (512 + 512 * length (used (entered book block))) book
+entering-keeps-the-rest book block e = rest-entered book block (enters book block e)
 
 -- A conversion leaves the day block, and so n, lead and clock; it leaves the length, the number of used slots and everything behind them; each series keeps its slot
 -- and every byte but mark and check, each sender its slot and every byte but nets and check
@@ -273,8 +297,8 @@ pub kept-series-stand-as-the-latest-messages : (book : Bytes) → sound book ≡
 kept-series-stand-as-the-latest-messages book s = series-of-latest-kept book (sound-says book s)
 
 -- a net's word is the signed sum, exact within ±1,999,999,800, which no sum of a message's quantities passes
-pub nets-are-signed-sums : (e : Bytes) (series : List Block) (k : ℕ) → length series ≤ 200 → All (λ x. quantity x k ≤ 9999999) series
-    → SignedSum (netOf e series k) (bought e series k) (sold e series k)
+pub nets-are-signed-sums : (ours e : Bytes) (series : List Block) (k : ℕ) → length series ≤ 200 → All (λ x. quantity x k ≤ 9999999) series
+    → SignedSum (netOf ours e series k) (bought ours e series k) (sold ours e series k)
 nets-are-signed-sums = net-signed
 
 -- a final is the seller's quantity or the lesser of the two, by the book's rule; the lesser is the greatest number that is above neither
@@ -313,22 +337,47 @@ pub looks-are-at-most-u-and-m : (book message : Bytes) → numberOf (verdict boo
     → (submitAnswer book message) .looked ≤ length (used (accepted book message)) + length (seriesOf message)
 looks-are-at-most-u-and-m book message e = looked-most book message e (accepts book message e)
 
--- the partners written are those found: in the mark of each series x of the sender stands what the looks have found for the message's series with its pair, k + 1
+-- the partners written are those found: in the mark of each series x of the sender stands what the looks have found for the message's series with its key, k + 1
 pub partners-written-are-found : (book message : Bytes) → numberOf (verdict book message) ≡ 0 → (slot : ℕ) (x : Block)
     → nth (used (accepted book message)) slot ≡ some x → isSeriesOf (slotOf (used (accepted book message)) (sender (headOf message))) x ≡ true
-    → (k : ℕ) → k < length (seriesOf message) → pair x ≡ pair (getD (seriesOf message) k []) → partner x ≡ getD (partnersFound book message) k 0
+    → (k : ℕ) → k < length (seriesOf message) → key x ≡ key (getD (seriesOf message) k []) → partner x ≡ getD (partnersFound book message) k 0
 partners-written-are-found book message e = partner-of-own book message (accepts book message e)
 
 -- and in the mark of its counterpart y its own slot: nothing is sought for that
 pub counterparts-name-the-placed-series : (book message : Bytes) → numberOf (verdict book message) ≡ 0 → (slot : ℕ) (x : Block)
     → nth (used (accepted book message)) slot ≡ some x → isSeriesOf (slotOf (used (accepted book message)) (sender (headOf message))) x ≡ true
     → (other : ℕ) (y : Block) → nth (used (accepted book message)) other ≡ some y
-    → isCounterpart (slotOf (used (accepted book message)) (sender (headOf message))) (pair x) y ≡ true → partner y ≡ slot
+    → isCounterpart (slotOf (used (accepted book message)) (sender (headOf message))) (trade x) y ≡ true → partner y ≡ slot
 counterparts-name-the-placed-series book message e = partner-of-counterpart book message (accepts book message e)
 
--- the bytes stay: over any blocks the looks find for each series of any message the slot that the mark of a series x with its pair has always named
+-- the bytes stay: over any blocks the looks find for each series of any message the slot that the mark of a series x that is paired by the same has always named
 pub the-looks-find-the-counterparts : (after series : List Block) (own k : ℕ) → k < length series → (x : Block) → sendersSlot x ≡ own
-    → pair x ≡ pair (getD series k []) → getD (found after series own) k 0 ≡ counterpartSlot after x
+    → trade x ≡ trade (getD series k []) → getD (found after series own) k 0 ≡ counterpartSlot after x
 the-looks-find-the-counterparts = found-counterpart
 
--- ---- 10. The useless versions contradict these promises: see the crate `useless`
+-- ---- 10. Rights (C-14)
+
+-- a right that is entered is never altered: through a submission, a clock move and a conversion it stands in its slot as it was given, and a further right comes
+-- behind it (6)
+pub acceptance-keeps-each-right : (book message : Bytes) → numberOf (verdict book message) ≡ 0 → (slot : ℕ) (r : Block) → nth (used book) slot ≡ some r
+    → isRight r ≡ true → nth (used (accepted book message)) slot ≡ some r
+acceptance-keeps-each-right book message e = right-kept book message (accepts book message e)
+
+pub clock-move-keeps-the-used-slots : (book : Bytes) (minute : ℕ) → (clockAnswer book minute) .number ≡ 0 → used (clockMoved book minute) ≡ used book
+clock-move-keeps-the-used-slots book minute e = used-moved book minute (moves book minute e)
+
+pub conversion-keeps-each-right : (book : Bytes) → conversionNumber book ≡ 0 → (slot : ℕ) (r : Block) → nth (used book) slot ≡ some r → isRight r ≡ true
+    → nth (used (converted book)) slot ≡ some r
+conversion-keeps-each-right book e = right-stays book (converts book e)
+
+-- of an accepted message the quantities on each right that its sender holds add up, at each position, to no more than its limit
+pub accepted-schedules-stay-within-their-rights : (book message : Bytes) → numberOf (verdict book message) ≡ 0 → (slot : ℕ) (r : Block) → nth (used book) slot ≡ some r
+    → isRightOf (sender (headOf message)) r ≡ true → (k : ℕ) → k < 100 → k < nOf (dayBlock book) → sumOn r (seriesOf message) k ≤ limit r k
+accepted-schedules-stay-within-their-rights book message e = sums-within book message (accepts book message e)
+
+-- a sum that rule 19 compares, over series that have passed and one that has passed rules 11 to 13, is below 2 to the 25
+pub sums-of-rule-19-are-small : (book : Bytes) → sound book ≡ true → (slot : ℕ) (r : Block) → nth (used book) slot ≡ some r → isRight r ≡ true → (seen : List Block) (y : Block) (k : ℕ)
+    → k < nOf (dayBlock book) → sumOn r seen k ≤ limit r k → quantity y k ≤ 9999999 → sumOn r seen k + quantity y k ≤ 19999998
+sums-of-rule-19-are-small book s = sum-small book (sound-says book s)
+
+-- ---- 11. The useless versions contradict these promises: see the crate `useless`

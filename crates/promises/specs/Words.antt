@@ -6,8 +6,8 @@ use Rattle.laws.specs.Lists.{same, find, has}
 use Rattle.laws.specs.Bytes.{part, number}
 use Rattle.paper.specs.declared.MarkAnswer.{MarkAnswer}
 use Rattle.paper.specs.declared.FinalAnswer.{FinalAnswer}
-use Rattle.paper.specs.Layout.{Bytes, Block, nOf, lead, clockPlus10080, ruleOf, pair}
-use Rattle.paper.specs.Book.{dayBlock, used, idIs, pairIs, slotOf, isSeriesOf}
+use Rattle.paper.specs.Layout.{Bytes, Block, nOf, lead, clockPlus10080, ruleOf}
+use Rattle.paper.specs.Book.{dayBlock, used, idIs, keyIs, trade, slotOf, isSeriesOf}
 use Rattle.paper.specs.Message.{headOf}
 use Rattle.paper.specs.Rules.{numberOf, closed, verdict}
 use Rattle.paper.specs.Marks.{isCounterpart}
@@ -16,7 +16,7 @@ use Rattle.paper.specs.Readings.{markGiven, markRefused}
 use Rattle.paper.specs.Opening.{openNumber}
 use Rattle.paper.specs.Conversion.{conversionNumber}
 use Rattle.paper.specs.PlainRule.{latest, seriesOfLatest, plainHeld, plainMark}
-use Rattle.paper.specs.Calls.{Call, Desk, step, run, opening, clockMove, submission, conversion, reading}
+use Rattle.paper.specs.Calls.{Call, Desk, step, run, opening, clockMove, submission, entering, conversion, reading}
 
 -- the bytes of a series but sender's slot, mark and check
 unfoldable pub content : Block → Bytes
@@ -29,6 +29,10 @@ contentIs c x = same (content x) c
 -- two lists of series have the same contents, in whatever order: any bytes c are the content of a series in own exactly if they are that of one in other
 abbrev pub SameContents : List Block → List Block → Type 0
 SameContents own other = (c : Bytes) → has (contentIs c) own ≡ has (contentIs c) other
+
+-- two lists of rights have the same blocks, in whatever order
+abbrev pub SameRights : List Block → List Block → Type 0
+SameRights own other = (r : Block) → has (same r) own ≡ has (same r) other
 
 -- the bytes of a sender block but nets and check
 unfoldable pub headContent : Block → Bytes
@@ -45,6 +49,7 @@ Starts buffer (opening o) = openNumber buffer o ≡ 0
 Starts buffer conversion = conversionNumber buffer ≡ 0
 Starts buffer (clockMove minute) = ⊥
 Starts buffer (submission m) = ⊥
+Starts buffer (entering block) = ⊥
 Starts buffer reading = ⊥
 
 -- the desk after it: with no message after an opening, with those kept after a conversion
@@ -60,6 +65,7 @@ abbrev pub NotOpened : Desk → Call → Type 0
 NotOpened k (opening o) = openNumber (k .book) o ≡ 0 → ⊥
 NotOpened k (clockMove minute) = Unit {0}
 NotOpened k (submission m) = Unit {0}
+NotOpened k (entering block) = Unit {0}
 NotOpened k conversion = Unit {0}
 NotOpened k reading = Unit {0}
 
@@ -85,9 +91,9 @@ pub record Later (before after : Bytes) : Type 0 where
   pub kept : (e p : Bytes) → isHeld (held (used before) e p) ≡ true → isHeld (held (used after) e p) ≡ true
   pub values : (e p : Bytes) (k : ℕ) → k < 100 → closed (dayBlock before) (k + 1) ≡ true → heldAt (held (used after) e p) k ≡ heldAt (held (used before) e p) k
 
--- the bytes of the series that sender e last sent under a pair, sender's slot, mark and check apart; of the first block of its latest message, nets and check apart
+-- the bytes of the series that sender e last sent under a key, sender's slot, mark and check apart; of the first block of its latest message, nets and check apart
 unfoldable pub plainContent : List Bytes → Bytes → Bytes → Option Bytes
-plainContent ms e p = Option·map content (find (pairIs p) (seriesOfLatest (latest e ms)))
+plainContent ms e k = Option·map content (find (keyIs k) (seriesOfLatest (latest e ms)))
 
 unfoldable pub plainHeadContent : List Bytes → Bytes → Option Bytes
 plainHeadContent ms e = Option·map (λ m. headContent (headOf m)) (latest e ms)
@@ -103,7 +109,7 @@ markTold mark = markGiven (number 1 0 mark) (number 1 1 mark) (number 2 2 mark)
 -- the plain rule's mark of a series y that sender e last sent, its counterpart standing in a slot
 unfoldable pub plainMarkFound : (messages : List Bytes) (e : Bytes) (slot : ℕ) (found : Option Block) → MarkAnswer
 plainMarkFound messages e slot none = markRefused 23
-plainMarkFound messages e slot (some y) = markTold (plainMark messages e (pair y) slot)
+plainMarkFound messages e slot (some y) = markTold (plainMark messages e (trade y) slot)
 
 unfoldable pub plainMarkAnswer : (messages : List Bytes) (e : Bytes) (id : Bytes) (slot : ℕ) → MarkAnswer
 plainMarkAnswer messages e id slot = plainMarkFound messages e slot (plainStoredAs messages e id)
@@ -119,7 +125,7 @@ plainFinal day messages seller buyer position =
 
 -- x is the counterpart of a series of the sender e, among the used slots us
 unfoldable pub isCounterpartOf : List Block → Bytes → Block → Bool
-isCounterpartOf us e x = has (λ z. isSeriesOf (slotOf us e) z and isCounterpart (slotOf us e) (pair z) x) us
+isCounterpartOf us e x = has (λ z. isSeriesOf (slotOf us e) z and isCounterpart (slotOf us e) (trade z) x) us
 
 -- a promise P on inputs, answer and lent bytes allows one outcome
 abbrev pub Determines : {I A : Type 0} → (I → A → Bytes → Type 0) → Type 0

@@ -1,11 +1,12 @@
 // The final value of (out party, in party, position), from the day block and the used slots of a sound book.
 ghost use mathlib.Core.Path.{_≡_};
+ghost use mathlib.Core.Option.{some};
 ghost use mathlib.Core.List.{_++_};
 ghost use Prim.Native.Nat.{_<_};
 ghost use Rattle.laws.specs.Lists.{same, place};
 ghost use Rattle.laws.specs.Cut.{cut};
 ghost use Rattle.paper.specs.Layout.{quantities, entry};
-ghost use Rattle.paper.specs.Book.{numbered, slotOf, isSeriesOfPair};
+ghost use Rattle.paper.specs.Book.{numbered, slotOf, isTradeOf};
 ghost use Rattle.paper.specs.Finals.{lesserOf, finalOf, finalRefused, finalIn};
 ghost use Rattle.readings.specs.Held.{finalHeld};
 use block::numbers::number_4;
@@ -21,6 +22,7 @@ use paper::Rule;
 use paper::Slot;
 use slots::block_at;
 use slots::is_series_of;
+use slots::is_trade;
 use slots::numbered;
 use slots::slot_of;
 use sound_blocks::day::closed;
@@ -35,25 +37,25 @@ fn same_joined(s: &[u8], a: &[u8], b: &[u8]) -> bool
     same(&s[..a.len()], a) & same(&s[a.len()..], b)
 }
 
-// A pair has the in party first, the buyer. It is compared only where the sender's slot agrees.
-fn is_series_of_pair(b: &[u8], slot: Slot, seller: &[u8], buyer: &[u8]) -> bool
-    ensures { λ r. ⌜ r ≡ isSeriesOfPair (slot .0) (now (buyer .entry) ++ now (seller .entry)) (now (b .entry)) ⌝ }
+// A pair has the in party first, the buyer. It is compared only where the sender's slot agrees. External schedules have no finals.
+fn is_trade_between(b: &[u8], slot: Slot, seller: &[u8], buyer: &[u8]) -> bool
+    ensures { λ r. ⌜ r ≡ isTradeOf (slot .0) (some (now (buyer .entry) ++ now (seller .entry))) (now (b .entry)) ⌝ }
 {
     if !is_series_of(b, slot) {
         return false;
     }
-    same_joined(pair(b), buyer, seller)
+    is_trade(b) & same_joined(pair(b), buyer, seller)
 }
 
-// The slot of the party's series under the pair; 0 where it has none.
+// The slot of the party's trade under the pair; 0 where it has none.
 fn held(us: &[u8], party: &[u8], seller: &[u8], buyer: &[u8]) -> Slot
-    ensures { λ r. ⌜ r .0 ≡ place (isSeriesOfPair (slotOf (cut 512 (now (us .entry))) (now (party .entry))) (now (buyer .entry) ++ now (seller .entry))) (cut 512 (now (us .entry))) ⌝ }
+    ensures { λ r. ⌜ r .0 ≡ place (isTradeOf (slotOf (cut 512 (now (us .entry))) (now (party .entry))) (some (now (buyer .entry) ++ now (seller .entry)))) (cut 512 (now (us .entry))) ⌝ }
 {
     let slot = slot_of(us, party);
     let blocks = us.len() / 512;
     let mut i = 0;
     while i < blocks {
-        if is_series_of_pair(block_at(us, i), slot, seller, buyer) {
+        if is_trade_between(block_at(us, i), slot, seller, buyer) {
             return Slot(i + 1);
         }
         i += 1;

@@ -31,6 +31,7 @@ use Rattle.paper.specs.Looks.{submitAnswer}
 use Rattle.paper.specs.Opening.{Opening, openAnswer, opened}
 use Rattle.paper.specs.Clock.{clockAnswer, clockMoved}
 use Rattle.paper.specs.Conversion.{conversionNumber, converted}
+use Rattle.paper.specs.Rights.{enterNumber, entered}
 use Rattle.paper.specs.Readings.{markAnswer, acceptedBlock}
 use Rattle.paper.specs.Finals.{final}
 use Rattle.paper.specs.PlainRun.{plainRun}
@@ -164,7 +165,8 @@ dayNumbers tag book body =
     (cond (is tag 6) (clockTold (clockAnswer book (number 2 0 body)))
     (cond (is tag 7) (submitTold (submitAnswer book body))
     (cond (is tag 24) (openNumbers (ruleNamed body) 4 book body)
-    (conversionNumber book ∷ []))))
+    (cond (is tag 25) (conversionNumber book ∷ [])
+    (enterNumber book body ∷ [])))))
 
 unfoldable pub dayAfter : (tag : ℕ) (book body : Bytes) → Bytes
 dayAfter tag book body =
@@ -172,7 +174,8 @@ dayAfter tag book body =
     (cond (is tag 6) (clockMoved book (number 2 0 body))
     (cond (is tag 7) (submitted book body)
     (cond (is tag 24) (openAfter (ruleNamed body) 4 book body)
-    (converted book))))
+    (cond (is tag 25) (converted book)
+    (entered book body)))))
 
 -- ---- calls whose lines show bytes
 
@@ -199,9 +202,9 @@ printLine body =
 unfoldable pub sealLine : (block : Bytes) → Bytes
 sealLine block = answerLine (wordOf 21) [] (sealed block)
 
--- ---- every record whose line is made of a book and a body: tags 3 to 25; tags 1 and 2, `length` and `bytes`, are not asked of it (stream, specs/Buffer)
+-- ---- every record whose line is made of a book and a body: tags 3 to 26; tags 1 and 2, `length` and `bytes`, are not asked of it (stream, specs/Buffer)
 
--- tags 5 to 7 and those above 23: open, clock, submit, open_by and convert may change the book
+-- tags 5 to 7 and those above 23: open, clock, submit, open_by, convert and right may change the book
 unfoldable pub mayChange : (tag : ℕ) → Bool
 mayChange tag = less tag 8 or less 23 tag
 

@@ -1,4 +1,4 @@
-// The calls that may change the book: open, clock, submit, open_by, convert; and judge, which tells what submit would, but for the looks.
+// The calls that may change the book: open, clock, submit, open_by, convert, right; and judge, which tells what submit would, but for the looks.
 ghost use mathlib.Core.Path.{_≡_};
 ghost use mathlib.Core.List.{[], _∷_};
 ghost use Rattle.paper.specs.Rules.{verdict};
@@ -6,6 +6,7 @@ ghost use Rattle.paper.specs.Acceptance.{submitted};
 ghost use Rattle.paper.specs.Looks.{submitAnswer};
 ghost use Rattle.paper.specs.Clock.{clockAnswer, clockMoved};
 ghost use Rattle.paper.specs.Conversion.{conversionNumber, converted};
+ghost use Rattle.paper.specs.Rights.{enterNumber, entered};
 ghost use Rattle.stream.specs.Told.{numbersOf};
 ghost use Rattle.replay_answers.specs.Answers.{clockTold, verdictTold, submitTold, openNumbers, openAfter, dayNumbers, dayAfter};
 use block::numbers::byte_or_zero;
@@ -93,6 +94,12 @@ fn convert(book: &mut [u8]) -> Told
     one(conversion::convert(book) as usize)
 }
 
+fn right(book: &mut [u8], block: &[u8]) -> Told
+    ensures { λ r. ⌜ (numbersOf r ≡ enterNumber (now (book .entry)) (now (block .entry)) ∷ []) × (now (book .exit) ≡ entered (now (book .entry)) (now (block .entry))) ⌝ }
+{
+    one(entering::enter_right(book, block) as usize)
+}
+
 pub fn numbers(tag: u8, book: &mut [u8], body: &[u8]) -> Told
     ensures { λ r. ⌜ (numbersOf r ≡ dayNumbers tag (now (book .entry)) (now (body .entry))) × (now (book .exit) ≡ dayAfter tag (now (book .entry)) (now (body .entry))) ⌝ }
 {
@@ -101,6 +108,7 @@ pub fn numbers(tag: u8, book: &mut [u8], body: &[u8]) -> Told
         6 => clock(book, Minute(number_2(body, 0))),
         7 => submit(book, body),
         24 => open(book, body, Rule(byte_or_zero(body, 3)), 4),
-        _ => convert(book),
+        25 => convert(book),
+        _ => right(book, body),
     }
 }

@@ -1,2 +1,2 @@
--- Rules 7, 16 and 17 as the code judges them.
+-- Rules 7 and 16 to 19 as the code judges them.
 pub mod ByPlaces

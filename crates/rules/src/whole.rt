@@ -1,5 +1,5 @@
 // Rules 16 and 17: the message's series, all of them, beside the sender's stored ones and the free slots. What is stored where was found before:
-// `numbers` has for each used slot the number of the message's series with its pair, `places` for each series of the message its slot; 0 where there is none.
+// `numbers` has for each used slot the number of the message's series with its key, `places` for each series of the message its slot; 0 where there is none.
 ghost use mathlib.Core.Path.{_≡_};
 ghost use mathlib.Core.Bool.{cond};
 ghost use mathlib.Core.List.{[]};

@@ -1,14 +1,18 @@
--- Blocks by number, a free block, and the used slots as a part of a book's bytes, as the code finds them.
+-- Blocks by number, a free block, two series compared, and the used slots as a part of a book's bytes, as the code finds them.
 pub mod Lent
-use Rattle.laws.specs.Kit.{_≡_, refl, sym, ap, _∙_, Bool, false, List, [], _∷_, ℕ, zero, suc, _+_, _-_, _*_, _/_, _≤_, _<_, add-sub-cancel-left, arith, length, take, drop, getD, List·getD-eq-default, drop-of-length-le, _and_, is, split, is-yes}
-use Rattle.laws.specs.Lists.{every, until}
+use Rattle.laws.specs.Kit.{_≡_, refl, sym, ap, _∙_, Bool, true, false, not, List, [], _∷_, ℕ, zero, suc, _+_, _-_, _*_, _/_, _≤_, _<_, add-sub-cancel-left, arith, length, take, drop, getD, List·getD-eq-default, drop-of-length-le, drop-drop, take-take, _and_, is, split, told, denied, is-yes}
+use Rattle.laws.specs.Lists.{same, every, until}
 use Rattle.laws.specs.Lists.Keep.{until-take, until-length}
+use Rattle.laws.specs.Lists.Each.{drop-take}
+use Rattle.laws.specs.Lists.Same.{same-split}
+use Rattle.laws.specs.Bytes.{part}
 use Rattle.laws.specs.Bytes.Laws.{number-1}
 use Rattle.laws.specs.Slices.{rest-slice}
 use Rattle.laws.specs.Cut.{cut, block}
 use Rattle.laws.specs.Cut.Laws.{cut-length, cut-at, cut-short, take-cut}
-use Rattle.paper.specs.Layout.{Bytes, Block, zeros, kind}
-use Rattle.paper.specs.Book.{numbered, slots, isFree, used}
+use Rattle.paper.specs.Layout.{Bytes, Block, zeros, kind, pair, key}
+use Rattle.paper.specs.Book.{numbered, slots, isFree, used, isTrade, trade, tradeIs}
+use Rattle.facts.specs.Keys.{key-same}
 
 -- a block passes a test as the code found it, x being that block
 pub found-so : (p : Block → Bool) {x y : Block} {t u : Bool} → x ≡ y → t ≡ p x → t ≡ u → p y ≡ u
@@ -35,6 +39,46 @@ pub kind-used : (b : Block) → (kind b ≡ 0 → ⊥) → isFree b ≡ false
 unfolding kind isFree zeros every _and_
 kind-used [] n = absurd (n (number-1 0 []))
 kind-used (x ∷ b) n = split (is x 0) (λ t. absurd (n (number-1 0 (x ∷ b) ∙ is-yes x 0 t))) (λ t. rw t)
+
+-- ---- two series
+
+-- the parts of the key in the order in which the code looks at them
+areas-part : (x : Block) → take 32 (part 24 80 x) ≡ part 24 32 x
+unfolding part
+areas-part x = take-take 32 80 (drop 24 x) (omega arith)
+
+behind-areas : (x : Block) → drop 32 (part 24 80 x) ≡ part 56 48 x
+unfolding part
+behind-areas x = drop-take 32 48 (drop 24 x) ∙ ap (take 48) (drop-drop 32 24 x)
+
+areas-and-rest : (a b : Block) → same (part 24 80 a) (part 24 80 b) ≡ (same (part 24 32 a) (part 24 32 b) and same (part 56 48 a) (part 56 48 b))
+areas-and-rest a b = same-split 32 (part 24 80 a) (part 24 80 b) ∙ rw (areas-part a, areas-part b, behind-areas a, behind-areas b)
+
+rest-first : (t a r : Bool) → (t and (a and r)) ≡ (r and (t and a))
+unfolding _and_
+rest-first true true true = refl
+rest-first true true false = refl
+rest-first true false true = refl
+rest-first true false false = refl
+rest-first false a true = refl
+rest-first false a false = refl
+
+key-parts : (a b : Block) → same (key a) (key b) ≡ (same (part 56 48 a) (part 56 48 b) and (same (part 4 2 a) (part 4 2 b) and same (part 24 32 a) (part 24 32 b)))
+key-parts a b = key-same a b ∙ ap (λ z. same (part 4 2 a) (part 4 2 b) and z) (areas-and-rest a b) ∙ rest-first _ _ _
+
+-- past the comparison s of parties and agreement, p and q
+module _ (a b : Block) {p q : Bytes} {s : Bool} (e : p ≡ part 56 48 a) (f : q ≡ part 56 48 b) (g : s ≡ same p q) where
+  pub key-other : not s ≡ true → false ≡ same (key a) (key b)
+  unfolding _and_
+  key-other h = sym (key-parts a b ∙ rw (sym e, sym f, denied g h))
+
+  pub key-rest : not s ≡ false → (same (part 4 2 a) (part 4 2 b) and same (part 24 32 a) (part 24 32 b)) ≡ same (key a) (key b)
+  unfolding _and_
+  key-rest h = sym (key-parts a b ∙ rw (sym e, sym f, told g h))
+
+pub trade-same : (a b : Block) → (isTrade a and isTrade b and same (pair b) (pair a)) ≡ tradeIs (trade a) b
+unfolding trade tradeIs _and_
+trade-same a b = split (isTrade a) (λ t. rw t) (λ t. rw t)
 
 -- ---- the used slots
 

@@ -1,16 +1,24 @@
-// Blocks in a row, as they stand in a book's slots and in a message: one by its number, those of a kind, the used ones, a sender's slot.
+// Blocks in a row, as they stand in a book's slots and in a message: one by its number, those of a kind, the used ones, a sender's slot; the kinds of series,
+// and two series compared.
 ghost use mathlib.Core.Path.{_≡_};
 ghost use mathlib.Core.List.{[]};
 ghost use Prim.Native.Nat.{_*_, _-_, _≤_};
 ghost use lib.ListN.{length, getD};
-ghost use Rattle.laws.specs.Lists.{until};
+ghost use Rattle.laws.specs.Lists.{same, until};
 ghost use Rattle.laws.specs.Cut.{cut};
-ghost use Rattle.paper.specs.Book.{isFree, used, isSender, isSeries, numbered, isSenderBlockOf, slotOf, isSeriesOf};
+ghost use Rattle.paper.specs.Layout.{key};
+ghost use Rattle.paper.specs.Book.{isFree, used, isSender, isSeries, isRight, isTrade, withCapacity, isExternal, trade, tradeIs, numbered, isSenderBlockOf, slotOf, isSeriesOf, isRightOf};
 use field::all_zero;
 use field::same;
+use layout::areas;
+use layout::business_type;
+use layout::holder;
 use layout::kind;
+use layout::pair;
+use layout::parties_and_agreement;
 use layout::sender;
 use layout::senders_slot;
+use layout::types;
 use paper::Slot;
 
 // Block i, counted from 0; empty where there is none.
@@ -47,6 +55,50 @@ pub fn is_series(b: &[u8]) -> bool
     kind(b) == 2
 }
 
+pub fn is_right(b: &[u8]) -> bool
+    ensures { λ r. ⌜ r ≡ isRight (now (b .entry)) ⌝ }
+{
+    kind(b) == 4
+}
+
+// A02: the only type that marks and finals pair.
+pub fn is_trade(x: &[u8]) -> bool
+    ensures { λ r. ⌜ r ≡ isTrade (now (x .entry)) ⌝ }
+{
+    business_type(x) == 2
+}
+
+// A03: the type of a right, and of the series that use it.
+pub fn with_capacity(x: &[u8]) -> bool
+    ensures { λ r. ⌜ r ≡ withCapacity (now (x .entry)) ⌝ }
+{
+    business_type(x) == 3
+}
+
+// A03 or A06.
+pub fn is_external(x: &[u8]) -> bool
+    ensures { λ r. ⌜ r ≡ isExternal (now (x .entry)) ⌝ }
+{
+    with_capacity(x) | (business_type(x) == 6)
+}
+
+// The parties first, since they tell most series apart; the areas are nearly always the same.
+pub fn same_key(a: &[u8], b: &[u8]) -> bool
+    ensures { λ r. ⌜ r ≡ same (key (now (a .entry))) (key (now (b .entry))) ⌝ }
+{
+    if !same(parties_and_agreement(a), parties_and_agreement(b)) {
+        return false;
+    }
+    same(types(a), types(b)) & same(areas(a), areas(b))
+}
+
+// Two trades between the same parties, in the same direction.
+pub fn same_trade(a: &[u8], b: &[u8]) -> bool
+    ensures { λ r. ⌜ r ≡ tradeIs (trade (now (a .entry))) (now (b .entry)) ⌝ }
+{
+    is_trade(a) & is_trade(b) & same(pair(b), pair(a))
+}
+
 pub fn is_series_of(b: &[u8], slot: Slot) -> bool
     ensures { λ r. ⌜ r ≡ isSeriesOf (slot .0) (now (b .entry)) ⌝ }
 {
@@ -57,6 +109,12 @@ pub fn is_sender_block_of(b: &[u8], e: &[u8]) -> bool
     ensures { λ r. ⌜ r ≡ isSenderBlockOf (now (e .entry)) (now (b .entry)) ⌝ }
 {
     is_sender(b) & same(sender(b), e)
+}
+
+pub fn is_right_of(b: &[u8], e: &[u8]) -> bool
+    ensures { λ r. ⌜ r ≡ isRightOf (now (e .entry)) (now (b .entry)) ⌝ }
+{
+    is_right(b) & same(holder(b), e)
 }
 
 // A used slot is told by its first byte.

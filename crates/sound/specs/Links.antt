@@ -2,17 +2,37 @@
 use mathlib.Core.Path.{_≡_}
 use mathlib.Core.Bool.{Bool, cond}
 use mathlib.Core.List.{List, []}
-use Prim.Native.Nat.{ℕ, _<_}
+use Prim.Native.Nat.{ℕ, _+_, _%_, _<_}
 use lib.ListN.{getD}
 use Rattle.laws.specs.Tests.{is}
 use Rattle.laws.specs.Lists.{All}
+use Rattle.laws.specs.Bytes.{part}
 use Rattle.paper.specs.Layout.{Block, idOf, sender, sendersSlot, pair}
-use Rattle.paper.specs.Book.{isSeries}
-use Rattle.index.specs.Tags.{tagOf, pairTagOf}
+use Rattle.paper.specs.Book.{isSender, isSeries, isRight, isTrade}
+use Rattle.index.specs.Tags.{tagOf, pairTagOf, keyTagOf}
 
--- the series of a sender are the group of its slot; the senders are group 0
+-- ---- numbers that differ where the ids, the keys, the senders' EICs or the rights do, but for a chance
+
+-- by areas, parties and agreement
+unfoldable pub wideTag : Block → ℕ
+wideTag b = (pairTagOf (part 24 32 b) + keyTagOf (part 56 48 b)) % 4294967296
+
+-- a trade has nothing but its parties to tell it from others of its sender; an external schedule or a right may have these in common with others
+unfoldable pub keyTag : Block → ℕ
+keyTag b = cond (isSender b) (tagOf (sender b)) (cond (isTrade b) (pairTagOf (pair b)) (wideTag b))
+
+unfoldable pub idTag : Block → ℕ
+idTag b = cond (isSeries b) (tagOf (idOf b)) (keyTag b)
+
+-- those of the first i blocks
+unfoldable pub Tags : List Block → ℕ → List ℕ → List ℕ → Type 0
+Tags us i ids keys = (j : ℕ) → j < i → (getD ids j 0 ≡ idTag (getD us j [])) × (getD keys j 0 ≡ keyTag (getD us j []))
+
+-- ---- groups
+
+-- the series of a sender are the group of its slot, one of at most 1,000; the senders are group 0; the rights are spread over the 23 that are left of 1,024
 unfoldable pub group : Block → ℕ
-group b = cond (isSeries b) (sendersSlot b) 0
+group b = cond (isSeries b) (sendersSlot b) (cond (isRight b) (1001 + keyTag b % 23) 0)
 
 unfoldable pub inGroup : ℕ → Block → Bool
 inGroup g b = is (group b) g
@@ -20,15 +40,3 @@ inGroup g b = is (group b) g
 -- every group has its bucket
 unfoldable pub Grouped : List Block → Type 0
 Grouped us = All (λ b. group b < 1024) us
-
--- ---- numbers that differ where the ids, the pairs or the senders' EICs do, but for a chance
-
-unfoldable pub idTag : Block → ℕ
-idTag b = tagOf (cond (isSeries b) (idOf b) (sender b))
-
-unfoldable pub pairTag : Block → ℕ
-pairTag b = cond (isSeries b) (pairTagOf (pair b)) (tagOf (sender b))
-
--- those of the first i blocks
-unfoldable pub Tags : List Block → ℕ → List ℕ → List ℕ → Type 0
-Tags us i ids pairs = (j : ℕ) → j < i → (getD ids j 0 ≡ idTag (getD us j [])) × (getD pairs j 0 ≡ pairTag (getD us j []))

@@ -29,12 +29,14 @@ use links::link;
 use links::no_tags;
 use links::tag;
 use slots::block_at;
+use slots::is_right;
 use slots::is_sender;
 use slots::is_series;
 use slots::used_count;
 use sound_blocks::day::day_sound;
 use sound_blocks::ranges::differing_allowed;
 use sound_blocks::ranges::whole_blocks;
+use sound_blocks::right::right_sound;
 use sound_blocks::sender::sender_day;
 use sound_blocks::sender::sender_fields;
 use sound_blocks::series::series_sound;
@@ -45,6 +47,9 @@ fn used_fields(old: bool, d: &[u8], us: &[u8], b: &[u8]) -> bool
 {
     if is_sender(b) {
         return sender_fields(d, b) & sender_day(d, b);
+    }
+    if is_right(b) {
+        return right_sound(d, b);
     }
     is_series(b) & series_sound(d, us, b) & differing_allowed(old, n_of(d), differing(b))
 }
@@ -72,9 +77,9 @@ fn linked_sound(us: &[u8]) -> bool
     let mut nexts = no_nexts();
     link(us, &mut heads, &mut nexts);
     let mut ids = no_tags();
-    let mut pairs = no_tags();
-    tag(us, &mut ids, &mut pairs);
-    if !blocks_apart(us, &nexts, &ids, &pairs) {
+    let mut keys = no_tags();
+    tag(us, &mut ids, &mut keys);
+    if !blocks_apart(us, &nexts, &ids, &keys) {
         return false;
     }
     counts_right(us, &heads, &nexts)

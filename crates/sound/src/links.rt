@@ -1,5 +1,5 @@
-// The used slots in groups: the series of each sender, and the senders. Each block is linked to the next of its group, so that what is asked
-// of the pairs within a group, or of a group's number, is found without a look at any other block.
+// The used slots in groups: the series of each sender, the senders, and the rights. Each block is linked to the next of its group, so that what is asked
+// of any two of a group, or of a group's number, is found without a look at any other block.
 ghost use mathlib.Core.Path.{_≡_};
 ghost use mathlib.Core.Bool.{true};
 ghost use mathlib.Core.List.{[]};
@@ -8,15 +8,50 @@ ghost use lib.ListN.{length, getD};
 ghost use Rattle.laws.specs.Cut.{cut};
 ghost use Rattle.paper.specs.Layout.{zeros};
 ghost use Rattle.index.specs.Linked.{Links};
-ghost use Rattle.sound.specs.Links.{group, inGroup, Grouped, idTag, pairTag, Tags};
+ghost use Rattle.sound.specs.Links.{wideTag, keyTag, idTag, Tags, group, inGroup, Grouped};
+use index::tags::key_tag_of;
 use index::tags::pair_tag_of;
 use index::tags::tag_of;
+use layout::areas;
 use layout::id_of;
 use layout::pair;
+use layout::parties_and_agreement;
 use layout::sender;
 use layout::senders_slot;
 use slots::block_at;
+use slots::is_right;
+use slots::is_sender;
 use slots::is_series;
+use slots::is_trade;
+
+fn wide_tag(b: &[u8]) -> u32
+    ensures { λ r. ⌜ r ≡ wideTag (now (b .entry)) ⌝ }
+{
+    let areas_tag = pair_tag_of(areas(b)) as u64;
+    ((areas_tag + key_tag_of(parties_and_agreement(b)) as u64) % 4294967296) as u32
+}
+
+// A trade's is made of fewer bytes: most series are trades.
+fn key_tag(b: &[u8]) -> u32
+    ensures { λ r. ⌜ r ≡ keyTag (now (b .entry)) ⌝ }
+{
+    if is_sender(b) {
+        return tag_of(sender(b));
+    }
+    if is_trade(b) {
+        return pair_tag_of(pair(b));
+    }
+    wide_tag(b)
+}
+
+fn id_tag(b: &[u8]) -> u32
+    ensures { λ r. ⌜ r ≡ idTag (now (b .entry)) ⌝ }
+{
+    if is_series(b) {
+        return tag_of(id_of(b));
+    }
+    key_tag(b)
+}
 
 // The group of the block at i.
 fn group_at(us: &[u8], i: usize) -> usize
@@ -26,6 +61,9 @@ fn group_at(us: &[u8], i: usize) -> usize
     let b = block_at(us, i);
     if is_series(b) {
         return senders_slot(b).0;
+    }
+    if is_right(b) {
+        return 1001 + (key_tag(b) % 23) as usize;
     }
     0
 }
@@ -50,35 +88,17 @@ pub fn link(us: &[u8], heads: &mut [u16; 1024], nexts: &mut [u16; 1000])
     }
 }
 
-fn id_tag(b: &[u8]) -> u32
-    ensures { λ r. ⌜ r ≡ idTag (now (b .entry)) ⌝ }
-{
-    if is_series(b) {
-        return tag_of(id_of(b));
-    }
-    tag_of(sender(b))
-}
-
-fn pair_tag(b: &[u8]) -> u32
-    ensures { λ r. ⌜ r ≡ pairTag (now (b .entry)) ⌝ }
-{
-    if is_series(b) {
-        return pair_tag_of(pair(b));
-    }
-    tag_of(sender(b))
-}
-
 // Two blocks are compared byte by byte only where their tags agree.
-pub fn tag(us: &[u8], ids: &mut [u32; 1000], pairs: &mut [u32; 1000])
-    requires { ⌜ (length (now us) / 512 ≤ 1000) × (length (now ids) ≡ 1000) × (length (now pairs) ≡ 1000) ⌝ }
-    ensures { λ _. ⌜ Tags (cut 512 (now (us .entry))) (length (now (us .entry)) / 512) (now (ids .exit)) (now (pairs .exit)) ⌝ }
+pub fn tag(us: &[u8], ids: &mut [u32; 1000], keys: &mut [u32; 1000])
+    requires { ⌜ (length (now us) / 512 ≤ 1000) × (length (now ids) ≡ 1000) × (length (now keys) ≡ 1000) ⌝ }
+    ensures { λ _. ⌜ Tags (cut 512 (now (us .entry))) (length (now (us .entry)) / 512) (now (ids .exit)) (now (keys .exit)) ⌝ }
 {
     let blocks = us.len() / 512;
     let mut i = 0;
     while i < blocks {
         let b = block_at(us, i);
         ids[i] = id_tag(b);
-        pairs[i] = pair_tag(b);
+        keys[i] = key_tag(b);
         i += 1;
     }
 }

@@ -1,6 +1,6 @@
 // The ranges of the fields.
 ghost use mathlib.Core.Path.{_≡_};
-ghost use Rattle.paper.specs.Ranges.{wholeBlocks, nAllowed, leadAllowed, clockAllowed, ruleAllowed, versionAllowed, countAllowed, quantityAllowed, netAllowed};
+ghost use Rattle.paper.specs.Ranges.{wholeBlocks, nAllowed, leadAllowed, clockAllowed, ruleAllowed, versionAllowed, countAllowed, contractAllowed, quantityAllowed, netAllowed};
 ghost use Rattle.sound_blocks.specs.Layouts.{allowedIn};
 use paper::LESSER;
 use paper::Minute;
@@ -49,6 +49,12 @@ pub fn count_allowed(count: u16) -> bool
     ensures { λ r. ⌜ r ≡ countAllowed count ⌝ }
 {
     (1 <= count) & (count <= 200)
+}
+
+pub fn contract_allowed(contract: u8) -> bool
+    ensures { λ r. ⌜ r ≡ contractAllowed contract ⌝ }
+{
+    (1 <= contract) & (contract <= 99)
 }
 
 pub fn quantity_allowed(kilowatts: u32) -> bool

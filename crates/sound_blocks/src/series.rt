@@ -4,47 +4,45 @@ ghost use Prim.Native.Nat.{_≤_};
 ghost use Rattle.laws.specs.Cut.{cut};
 ghost use Rattle.paper.specs.Layout.{nOf};
 ghost use Rattle.paper.specs.Sound.{partiesOf, ownerSound, partnerSound, seriesFields, seriesCodes, seriesValues, seriesSound};
+use super::areas::areas_allowed;
+use super::capacity::capacity_allowed;
+use super::capacity::type_allowed;
 use super::entries::quantities_allowed;
 use super::ranges::version_allowed;
 use eic::eic_valid;
-use field::all_zero;
 use field::id_well_formed;
 use field::part_of;
 use field::same;
-use layout::agreement;
 use layout::area;
-use layout::business_type;
-use layout::contract_type;
 use layout::first;
 use layout::id_of;
-use layout::in_area;
 use layout::in_party;
 use layout::n_of;
-use layout::out_area;
 use layout::out_party;
 use layout::pair;
 use layout::partner;
 use layout::sender;
 use layout::senders_slot;
 use layout::version;
+use slots::is_external;
 use slots::is_sender;
 use slots::is_series;
 use slots::numbered;
 
-// A submission asks the same of a message's series.
-pub fn parties_of(e: &[u8], p: &[u8]) -> bool
-    ensures { λ r. ⌜ r ≡ partiesOf (now (e .entry)) (now (p .entry)) ⌝ }
+// A submission asks the same of a message's series. An external schedule may have its sender as both parties.
+pub fn parties_of(external: bool, e: &[u8], p: &[u8]) -> bool
+    ensures { λ r. ⌜ r ≡ partiesOf external (now (e .entry)) (now (p .entry)) ⌝ }
 {
     let one = part_of(p, 0, 16);
     let other = part_of(p, 16, p.len());
-    !same(one, other) & (same(one, e) | same(other, e))
+    (external | !same(one, other)) & (same(one, e) | same(other, e))
 }
 
 fn owner_sound(us: &[u8], x: &[u8]) -> bool
     ensures { λ r. ⌜ r ≡ ownerSound (cut 512 (now (us .entry))) (now (x .entry)) ⌝ }
 {
     let owner = numbered(us, senders_slot(x));
-    is_sender(owner) & parties_of(sender(owner), pair(x))
+    is_sender(owner) & parties_of(is_external(x), sender(owner), pair(x))
 }
 
 fn partner_sound(us: &[u8], x: &[u8]) -> bool
@@ -58,20 +56,15 @@ fn series_fields(d: &[u8], x: &[u8]) -> bool
 {
     (n_of(x) == n_of(d))
         & version_allowed(version(x))
-        & (business_type(x) == 2)
-        & (contract_type(x) == 0)
+        & type_allowed(x)
+        & capacity_allowed(x)
         & id_well_formed(id_of(x))
 }
 
 fn series_codes(d: &[u8], x: &[u8]) -> bool
     ensures { λ r. ⌜ r ≡ seriesCodes (now (d .entry)) (now (x .entry)) ⌝ }
 {
-    let own = area(d);
-    same(in_area(x), own)
-        & same(out_area(x), own)
-        & eic_valid(in_party(x))
-        & eic_valid(out_party(x))
-        & all_zero(agreement(x))
+    areas_allowed(area(d), x) & eic_valid(in_party(x)) & eic_valid(out_party(x))
 }
 
 fn series_values(d: &[u8], x: &[u8]) -> bool

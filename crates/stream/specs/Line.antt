@@ -75,6 +75,7 @@ words =
     ∷ text "judge"
     ∷ text "open_by"
     ∷ text "convert"
+    ∷ text "right"
     ∷ [])
 
 unfoldable pub wordOf : ℕ → Bytes

@@ -42,6 +42,7 @@ rows =
     ∷ sizes 0 131072  -- judge
     ∷ sizes 7 199  -- open_by
     ∷ sizes 0 0  -- convert
+    ∷ sizes 0 1024  -- right
     ∷ []
 
 unfoldable pub sizesOf : (tag : ℕ) → Sizes

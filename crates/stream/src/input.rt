@@ -45,6 +45,7 @@ fn sizes_of(tag: u8) -> Sizes
         Sizes(0, 131072), // judge
         Sizes(7, 199), // open_by
         Sizes(0, 0), // convert
+        Sizes(0, 1024), // right
     ];
     let k = tag as usize;
     if rows.len() <= k {

@@ -6,8 +6,8 @@ use Rattle.laws.specs.Bytes.Laws.{number-1}
 use Rattle.laws.specs.Cut.{join}
 use Rattle.paper.specs.declared.Verdict.{Verdict}
 use Rattle.paper.specs.Check.{sealed}
-use Rattle.paper.specs.Layout.{Bytes, Block, kind, nOf, sender, nets, sendersSlot, pair, mark, differing, partner, entry, withSendersSlot}
-use Rattle.paper.specs.Book.{dayBlock, used, isSeries, isSenderBlockOf, slotOf}
+use Rattle.paper.specs.Layout.{Bytes, Block, kind, nOf, area, sender, nets, businessType, sendersSlot, pair, mark, differing, partner, entry, withSendersSlot}
+use Rattle.paper.specs.Book.{dayBlock, used, isSeries, isTrade, trade, isSenderBlockOf, slotOf}
 use Rattle.paper.specs.Message.{headOf, seriesOf}
 use Rattle.paper.specs.Rules.{numberOf, verdict}
 use Rattle.paper.specs.Acceptance.{slotFor, usedAfter, submitted}
@@ -16,10 +16,11 @@ use Rattle.paper.specs.PlainRule.{orElse, latest, plainMark, plainNets}
 use Rattle.paper.specs.Calls.{opening, submission, step, run}
 use Rattle.facts.specs.Layout.{mark-differing}
 use Rattle.facts.specs.Book.{kind-series}
+use Rattle.facts.specs.Pairs.{trade-domestic}
 use Rattle.promises.specs.Promises.{nets-are-the-plain-rules, marks-are-the-plain-rules}
 use Rattle.cases.specs.Opened.{paper, demand3}
 use Rattle.cases.specs.Case.{once}
-use Rattle.cases.specs.Examples.{seller, buyer, head, sale, buyback, steady, parameters, bookOf, examples}
+use Rattle.cases.specs.Examples.{area as ours, seller, buyer, head, sale, buyback, steady, parameters, bookOf, examples}
 
 -- ---- versions of submission: its answer, and the book after it
 
@@ -96,7 +97,7 @@ unfoldable pub firstOnly : Bytes → Bytes → Bytes
 firstOnly book message =
     let h : Block = headOf message in
     let copied : List Block = map (λ y. sealed (withSendersSlot (slotFor (used book) (sender h)) y)) (drop 1 (seriesOf message)) in
-    let after : List Block = usedAfter (nOf (dayBlock book)) (used book) h (take 1 (seriesOf message)) ++ copied in
+    let after : List Block = usedAfter (nOf (dayBlock book)) (area (dayBlock book)) (used book) h (take 1 (seriesOf message)) ++ copied in
     dayBlock book ++ join after ++ drop (512 + 512 * length after) book
 
 -- the opening, and the book that it spoils
@@ -114,7 +115,7 @@ book-opened = refl
 -- by demand 3 the nets kept are the plain rule's, after an opening and one accepted message
 abbrev pub NetsPlain : (Bytes → Bytes → Bytes) → Type 0
 NetsPlain after = (buffer : Bytes) (o : Opening) (m : Bytes) → openNumber buffer o ≡ 0 → numberOf (verdict (opened buffer o) m) ≡ 0
-    → (e : Bytes) → Option·map nets (find (isSenderBlockOf e) (used (after (opened buffer o) m))) ≡ plainNets (m ∷ []) e
+    → (e : Bytes) → Option·map nets (find (isSenderBlockOf e) (used (after (opened buffer o) m))) ≡ plainNets (area (dayBlock (after (opened buffer o) m))) (m ∷ []) e
 
 -- the desk does
 pub desk-nets-plain : NetsPlain submitted
@@ -122,9 +123,14 @@ unfolding run step
 desk-nets-plain buffer o m h q e = rw (is-equal _ _ h, is-equal _ _ q) at (nets-are-the-plain-rules buffer (opening o) h (submission m ∷ []) e)
 
 -- at position 1 the seller's net is the 1,000 that it buys less the 45,000 that it sells
-net-plain : once (λ m. Option·map (λ v. entry v 0) (plainNets (m ∷ []) seller)) message ≡ some 4294923296
+net-plain : once (λ m. Option·map (λ v. entry v 0) (plainNets ours (m ∷ []) seller)) message ≡ some 4294923296
 unfolding paper examples message plainNets latest orElse
 net-plain = refl
+
+-- the area stays
+area-first-only : computed (λ b m. area (dayBlock (firstOnly b m))) book message ≡ ours
+unfolding paper examples book message firstOnly
+area-first-only = refl
 
 -- the 45,000 alone
 net-first-only : computed (λ b m. Option·map (λ v. entry v 0) (Option·map nets (find (isSenderBlockOf seller) (used (firstOnly b m))))) book message ≡ some 4294922296
@@ -134,12 +140,14 @@ net-first-only = refl
 pub first-series-only-nets : NetsPlain firstOnly → ⊥
 first-series-only-nets p =
     let a : numberOf (verdict (opened (replicate 3072 7) (parameters 45)) message) ≡ 0 = rw book-opened at answer-0 in
-    let q : Option·map nets (find (isSenderBlockOf seller) (used (firstOnly book message))) ≡ plainNets (message ∷ []) seller = rw book-opened
+    let q : Option·map nets (find (isSenderBlockOf seller) (used (firstOnly book message))) ≡ plainNets (area (dayBlock (firstOnly book message))) (message ∷ []) seller = rw book-opened
     (p (replicate 3072 7) (parameters 45) message opening-allowed a seller) in
+    let i : area (dayBlock (firstOnly book message)) ≡ ours = sym (twice-is (λ b m. area (dayBlock (firstOnly b m))) book message) ∙ area-first-only in
     let r : _≡_ {A = Option ℕ} (some 4294922296) (some 4294923296) =
     sym net-first-only ∙ twice-is (λ b m. Option·map (λ v. entry v 0) (Option·map nets (find (isSenderBlockOf seller) (used (firstOnly b m))))) book message ∙ ap
     (Option·map (λ v. entry v 0)) q
-    ∙ sym (once-is (λ m. Option·map (λ v. entry v 0) (plainNets (m ∷ []) seller)) message) ∙ net-plain in
+    ∙ ap (λ o. Option·map (λ v. entry v 0) (plainNets o (message ∷ []) seller)) i
+    ∙ sym (once-is (λ m. Option·map (λ v. entry v 0) (plainNets ours (m ∷ []) seller)) message) ∙ net-plain in
     let z : _≡_ {A = ℕ} 4294922296 4294923296 = cc in
     omega arith
 
@@ -149,7 +157,7 @@ abbrev pub MarksPlain : (Bytes → Bytes → Bytes) → Type 0
 MarksPlain after = (buffer : Bytes) (o : Opening) (m k : Bytes) → openNumber buffer o ≡ 0 → numberOf (verdict (opened buffer o) m) ≡ 0
     → numberOf (verdict (after (opened buffer o) m) k) ≡ 0
     → (slot : ℕ) (x : Block) → nth (used (after (after (opened buffer o) m) k)) slot ≡ some x → isSeries x ≡ true
-    → (e : Bytes) → slotOf (used (after (after (opened buffer o) m) k)) e ≡ sendersSlot x → mark x ≡ plainMark (m ∷ k ∷ []) e (pair x) (partner x)
+    → (e : Bytes) → slotOf (used (after (after (opened buffer o) m) k)) e ≡ sendersSlot x → mark x ≡ plainMark (m ∷ k ∷ []) e (trade x) (partner x)
 
 pub desk-marks-plain : MarksPlain submitted
 unfolding run step
@@ -175,7 +183,7 @@ unfolding paper examples book offer message filed firstOnly
 filed-0 = refl
 
 -- slot 5 then has that series of the seller in slot 3, with no mark
-series-copied : once (λ b. Option·map (λ x. kind x ∷ sendersSlot x ∷ differing x ∷ pair x) (nth (used b) 5)) spoilt ≡ some (2 ∷ 3 ∷ 0 ∷ seller ++ buyer)
+series-copied : once (λ b. Option·map (λ x. kind x ∷ sendersSlot x ∷ differing x ∷ businessType x ∷ pair x) (nth (used b) 5)) spoilt ≡ some (2 ∷ 3 ∷ 0 ∷ 2 ∷ seller ++ buyer)
 unfolding paper examples book offer message filed spoilt firstOnly nth
 series-copied = refl
 
@@ -184,7 +192,7 @@ unfolding paper examples book offer message filed spoilt firstOnly
 sellers-slot = refl
 
 -- by the plain rule all 96 positions differ
-count-plain : (slot : ℕ) → computed (λ m k. getD (plainMark (m ∷ k ∷ []) seller (seller ++ buyer) slot) 0 0) offer message ≡ 96
+count-plain : (slot : ℕ) → computed (λ m k. getD (plainMark (m ∷ k ∷ []) seller (some (seller ++ buyer)) slot) 0 0) offer message ≡ 96
 unfolding paper demand3 examples offer message
 count-plain slot = refl
 
@@ -200,25 +208,31 @@ spoilt-is : spoilt ≡ firstOnly (firstOnly (opened (replicate 3072 7) (paramete
 unfolding spoilt
 spoilt-is = twice-is firstOnly filed message ∙ ap (λ b. firstOnly b message) filed-is
 
+a-trade : (x : Block) → businessType x ≡ 2 → isTrade x ≡ true
+unfolding isTrade
+a-trade x e = is-equal _ _ e
+
 pub first-series-only-marks : MarksPlain firstOnly → ⊥
 first-series-only-marks p = by (nth (used spoilt) 5) refl
   where
-    seen : Option·map (λ x. kind x ∷ sendersSlot x ∷ differing x ∷ pair x) (nth (used spoilt) 5) ≡ some (2 ∷ 3 ∷ 0 ∷ seller ++ buyer)
-    seen = sym (once-is (λ b. Option·map (λ x. kind x ∷ sendersSlot x ∷ differing x ∷ pair x) (nth (used b) 5)) spoilt) ∙ series-copied
+    seen : Option·map (λ x. kind x ∷ sendersSlot x ∷ differing x ∷ businessType x ∷ pair x) (nth (used spoilt) 5) ≡ some (2 ∷ 3 ∷ 0 ∷ 2 ∷ seller ++ buyer)
+    seen = sym (once-is (λ b. Option·map (λ x. kind x ∷ sendersSlot x ∷ differing x ∷ businessType x ∷ pair x) (nth (used b) 5)) spoilt) ∙ series-copied
 
     in-slot : slotOf (used spoilt) seller ≡ 3
     in-slot = sym (once-is (λ b. slotOf (used b) seller) spoilt) ∙ sellers-slot
 
     by : (o : Option Block) → nth (used spoilt) 5 ≡ o → ⊥
-    by none f = let z : _≡_ {A = Option Bytes} none (some (2 ∷ 3 ∷ 0 ∷ seller ++ buyer)) = sym
-        (ap (Option·map (λ x. kind x ∷ sendersSlot x ∷ differing x ∷ pair x)) f) ∙ seen in let w : _≡_ {A = ℕ} 0 1 = cc in omega arith
+    by none f = let z : _≡_ {A = Option Bytes} none (some (2 ∷ 3 ∷ 0 ∷ 2 ∷ seller ++ buyer)) = sym
+        (ap (Option·map (λ x. kind x ∷ sendersSlot x ∷ differing x ∷ businessType x ∷ pair x)) f) ∙ seen in let w : _≡_ {A = ℕ} 0 1 = cc in omega arith
     by (some x) f =
-        let z : _≡_ {A = Option Bytes} (some (kind x ∷ sendersSlot x ∷ differing x ∷ pair x)) (some (2 ∷ 3 ∷ 0 ∷ seller ++ buyer)) = sym
-        (ap (Option·map (λ y. kind y ∷ sendersSlot y ∷ differing y ∷ pair y)) f) ∙ seen in
+        let z : _≡_ {A = Option Bytes} (some (kind x ∷ sendersSlot x ∷ differing x ∷ businessType x ∷ pair x)) (some (2 ∷ 3 ∷ 0 ∷ 2 ∷ seller ++ buyer)) = sym
+        (ap (Option·map (λ y. kind y ∷ sendersSlot y ∷ differing y ∷ businessType y ∷ pair y)) f) ∙ seen in
         let k : kind x ≡ 2 = cc in
         let i : sendersSlot x ≡ 3 = cc in
         let c : differing x ≡ 0 = cc in
-        let q : pair x ≡ seller ++ buyer = cc in
+        let t : businessType x ≡ 2 = cc in
+        let v : pair x ≡ seller ++ buyer = cc in
+        let q : trade x ≡ some (seller ++ buyer) = trade-domestic x (a-trade x t) ∙ ap some v in
         let a : numberOf (verdict (opened (replicate 3072 7) (parameters 45)) offer) ≡ 0 = rw book-opened at
         (sym (twice-is (λ b m. numberOf (verdict b m)) book offer) ∙ offered-0) in
         let b : numberOf (verdict (firstOnly (opened (replicate 3072 7) (parameters 45)) offer) message) ≡ 0 = rw filed-is at
@@ -226,5 +240,5 @@ first-series-only-marks p = by (nth (used spoilt) 5) refl
         let m = p (replicate 3072 7) (parameters 45) offer message opening-allowed a b 5 x (rw spoilt-is at f) (kind-series x k) seller
         (rw spoilt-is at in-slot ∙ sym i) in
         let w : _≡_ {A = ℕ} 0 96 = sym c ∙ count-of x _ (rw q at m)
-        ∙ sym (twice-is (λ m k. getD (plainMark (m ∷ k ∷ []) seller (seller ++ buyer) (partner x)) 0 0) offer message) ∙ count-plain (partner x) in
+        ∙ sym (twice-is (λ m k. getD (plainMark (m ∷ k ∷ []) seller (some (seller ++ buyer)) (partner x)) 0 0) offer message) ∙ count-plain (partner x) in
         omega arith

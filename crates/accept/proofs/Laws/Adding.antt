@@ -4,22 +4,21 @@ use Rattle.laws.specs.Lists.{place, keep}
 use Rattle.laws.specs.Lists.Each.{map-append}
 use Rattle.laws.specs.Lists.Search.{has-keep-and, place-is-0}
 use Rattle.laws.specs.Lists.Keep.{keep-append}
-use Rattle.paper.specs.Layout.{Block, pair, withSendersSlot}
-use Rattle.paper.specs.Book.{pairIs, isSeriesOf}
+use Rattle.paper.specs.Layout.{Block, key, withSendersSlot}
+use Rattle.paper.specs.Book.{keyIs, isSeriesOf}
 use Rattle.paper.specs.Rules.{isNew}
-use Rattle.paper.specs.Acceptance.{senderKept}
-use Rattle.index.specs.Linked.{keyOf, ownWith, Found}
-use Rattle.index.specs.declared.By.the-variants.{Pair}
+use Rattle.index.specs.Linked.{alike, ownWith, Found}
+use Rattle.index.specs.declared.By.the-variants.{Key}
 use Rattle.accept.specs.Steps.{senderIfNew, addedAt, addedTo}
 
 -- ---- the sender's block
 
-module _ (known : ℕ) (h : Block) (series : List Block) where
-  pub sender-new : known ≡ 0 → senderIfNew known h series ≡ senderKept h series ∷ []
+module _ (known : ℕ) (kept : Block) where
+  pub sender-new : known ≡ 0 → senderIfNew known kept ≡ kept ∷ []
   unfolding senderIfNew
   sender-new z = rw (is-equal known 0 z)
 
-  pub sender-known : (known ≡ 0 → ⊥) → senderIfNew known h series ≡ []
+  pub sender-known : (known ≡ 0 → ⊥) → senderIfNew known kept ≡ []
   unfolding senderIfNew
   sender-known z = rw (is-other known 0 z)
 
@@ -34,9 +33,9 @@ module _ (slot stored : ℕ) (y : Block) where
   unfolding addedAt
   added-no z = rw (is-other stored 0 z)
 
-new-by-place : (known : ℕ) (us : List Block) (y : Block) → is (place (ownWith known Pair (keyOf Pair y)) us) 0 ≡ isNew (keep (isSeriesOf known) us) y
-unfolding isNew ownWith keyOf pairIs
-new-by-place known us y = place-is-0 (ownWith known Pair (keyOf Pair y)) us ∙ ap neg (sym (has-keep-and (pairIs (pair y)) (isSeriesOf known) us))
+new-by-place : (known : ℕ) (us : List Block) (y : Block) → is (place (ownWith known Key y) us) 0 ≡ isNew (keep (isSeriesOf known) us) y
+unfolding isNew ownWith alike
+new-by-place known us y = place-is-0 (ownWith known Key y) us ∙ ap neg (sym (has-keep-and (keyIs (key y)) (isSeriesOf known) us))
 
 -- ---- series in turn
 
@@ -60,7 +59,7 @@ module _ (slot : ℕ) (places : List ℕ) (series : List Block) where
       omega (arith, added-grows m (k + 1) (omega arith), ap length (added-more k), length-append (addedTo slot places series k) (addedAt slot (getD places k 0) (getD series k [])))
 
   -- with the places that the judgement has found, those added are the new ones
-  module _ (known : ℕ) (us : List Block) (f : Found known Pair us series places) where
+  module _ (known : ℕ) (us : List Block) (f : Found known Key us series places) where
     abbrev new : Block → Bool
     new = isNew (keep (isSeriesOf known) us)
 

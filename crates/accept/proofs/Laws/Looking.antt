@@ -2,16 +2,17 @@
 use Rattle.laws.specs.Kit.{_≡_, refl, sym, ap, _∙_, true, false, List, [], ℕ, _+_, _-_, _≤_, _<_, arith, length, take, getD, set, set-getD, getD-set-same, getD-set-other, length-set, length-take-le, is, split, is-yes, is-no, is-equal, is-other}
 use native.Mathlib.Decide.{ℕ-discrete}
 use Rattle.laws.specs.Lists.{place, every}
-use Rattle.laws.specs.Lists.Each.{every-all, all-getD-inside}
-use Rattle.laws.specs.Lists.Search.{place-length}
-use Rattle.paper.specs.Layout.{Bytes, Block, zeros, sendersSlot, pair}
-use Rattle.paper.specs.Book.{isSeries, isSeriesOf, pairIs}
+use Rattle.laws.specs.Lists.Each.{all-each, every-all, all-getD-inside}
+use Rattle.laws.specs.Lists.Search.{all-has-no, has-no-place, place-length}
+use Rattle.paper.specs.Layout.{Block, zeros, sendersSlot}
+use Rattle.paper.specs.Book.{isSeries, isTrade, isSeriesOf, trade, tradeIs}
 use Rattle.paper.specs.Looks.{look, found, visited}
-use Rattle.facts.specs.Looks.{foundTo, found-none, found-more, found-all, none-found-row, look-into-row, look-no-series, look-own, look-no-pair, visited-length}
-use Rattle.facts.specs.Partners.{Homes, homes-none, homes-other, homes-no-pair, homes-own}
-use Rattle.index.specs.declared.By.the-variants.{Pair}
-use Rattle.index.specs.Linked.{keyOf, ownWith}
-use Rattle.accept.specs.Steps.{Sent, Numbers, firstKept, homeNoted}
+use Rattle.facts.specs.Looks.{foundTo, found-none, found-more, found-all, none-found-row, look-into-row, look-no-series, look-own, look-no-trade, visited-length}
+use Rattle.facts.specs.Pairs.{trade-none}
+use Rattle.facts.specs.Partners.{Homes, homes-none, homes-other, homes-no-trade, homes-own}
+use Rattle.index.specs.declared.By.the-variants.{Trade}
+use Rattle.index.specs.Linked.{alike, ownWith}
+use Rattle.accept.specs.Steps.{Sent, TradeNumbers, firstKept, homeNoted}
 use Rattle.accept.proofs.Laws.Renewing.{number-found}
 
 -- ---- a row of slots
@@ -50,21 +51,24 @@ module _ (slot : ℕ) (block : Block) (own number : ℕ) (homes : List ℕ) wher
 -- ---- one look
 
 module _ (series : List Block) (s : Sent series) (block : Block) where
-  -- the number is sought along the message's links
-  pub number-sought : {p : Bytes} → p ≡ pair block → {number : ℕ} → number ≡ place (ownWith 0 Pair p) series → number ≡ place (pairIs (pair block)) series
-  unfolding keyOf
-  number-sought q e = e ∙ ap (λ p. place (ownWith 0 Pair p) series) q ∙ number-found block series (s .slots)
+  -- the number is sought along the message's links, but for an external schedule
+  pub number-sought : {number : ℕ} → number ≡ place (ownWith 0 Trade block) series → number ≡ place (tradeIs (trade block)) series
+  unfolding alike
+  number-sought e = e ∙ number-found Trade block series (s .slots)
 
-  module _ (number : ℕ) (e : number ≡ place (pairIs (pair block)) series) where
+  pub number-none : isTrade block ≡ false → 0 ≡ place (tradeIs (trade block)) series
+  number-none i = sym (has-no-place _ series (all-has-no _ series (all-each (λ y. tradeIs (trade block) y ≡ false) (λ y. trade-none block y i) series)))
+
+  module _ (number : ℕ) (e : number ≡ place (tradeIs (trade block)) series) where
     pub number-few : number ≤ 200
-    number-few = let m : length series ≤ 200 = s .few in omega (arith, place-length (pairIs (pair block)) series)
+    number-few = let m : length series ≤ 200 = s .few in omega (arith, place-length (tradeIs (trade block)) series)
 
     module _ (slot own : ℕ) (row : List ℕ) (room : length row ≡ 200) where
       sized : length (take (length series) row) ≡ length series
       sized = let m : length series ≤ 200 = s .few in length-take-le (length series) row (omega arith)
 
       pub looked-absent : number ≡ 0 → take (length series) row ≡ look slot block series own (take (length series) row)
-      looked-absent z = sym (look-no-pair slot block own series _ sized number e z)
+      looked-absent z = sym (look-no-trade slot block own series _ sized number e z)
 
       pub looked-no-series : isSeries block ≡ false → take (length series) row ≡ look slot block series own (take (length series) row)
       looked-no-series t = sym (look-no-series slot block own series _ sized t)
@@ -84,7 +88,7 @@ module _ (series : List Block) (s : Sent series) (block : Block) where
 pub record LookedTo (own : ℕ) (l series : List Block) (i : ℕ) (partners homes numbers : List ℕ) : Type 0 where
   pub partners-found : take (length series) partners ≡ foundTo l series own i
   pub homes-found : Homes own l series i homes
-  pub numbers-told : (k : ℕ) → k < i → getD numbers k 0 ≡ place (pairIs (pair (getD l k []))) series
+  pub numbers-told : (k : ℕ) → k < i → getD numbers k 0 ≡ place (tradeIs (trade (getD l k []))) series
   pub partners-room : length partners ≡ 200
   pub homes-room : length homes ≡ 200
   pub numbers-room : length numbers ≡ 1000
@@ -105,15 +109,15 @@ module _ (own : ℕ) (l series : List Block) (s : Sent series) where
       }
 
   module _ (i : ℕ) (h : i < length l) (partners homes numbers : List ℕ) (a : LookedTo own l series i partners homes numbers) (block : Block) (b : block ≡ getD l i []) (number : ℕ)
-      (e : number ≡ place (pairIs (pair block)) series) where
+      (e : number ≡ place (tradeIs (trade block)) series) where
     noted : Homes own l series (i + 1) (homeNoted (i + 1) (getD l i []) own number homes)
     unfolding homeNoted firstKept
     noted =
-        let n : number ≡ place (pairIs (pair (getD l i []))) series = rw b at e in
+        let n : number ≡ place (tradeIs (trade (getD l i []))) series = rw b at e in
         let m : length series ≤ 200 = s .few in
         let r : length homes ≡ 200 = a .homes-room in
         split (is number 0)
-        (λ t. rw t (homes-no-pair own l series homes i h (a .homes-found) number n (is-yes _ _ t)))
+        (λ t. rw t (homes-no-trade own l series homes i h (a .homes-found) number n (is-yes _ _ t)))
         (λ t. split (isSeriesOf own (getD l i []))
         (λ u. rw (t, u) (homes-own own l series homes i h (a .homes-found) (s .distinct) (omega arith) u (number - 1) (sym n ∙ omega (arith, is-no _ _ t))))
         (λ u. rw (t, u) (homes-other own l series homes i h (a .homes-found) u)))
@@ -135,8 +139,8 @@ module _ (own : ℕ) (l series : List Block) (s : Sent series) where
     }
 
   module _ (i : ℕ) (all : i ≡ length l) (partners homes numbers : List ℕ) (a : LookedTo own l series i partners homes numbers) where
-    pub looked-all : (take (length series) partners ≡ found l series own) × Homes own l series (length l) homes × Numbers l series numbers × (i ≡ length (visited l))
-    unfolding Numbers
+    pub looked-all : (take (length series) partners ≡ found l series own) × Homes own l series (length l) homes × TradeNumbers l series numbers × (i ≡ length (visited l))
+    unfolding TradeNumbers
     looked-all = (
       a .partners-found ∙ ap (foundTo l series own) all ∙ found-all l series own,
       rw all at (a .homes-found),

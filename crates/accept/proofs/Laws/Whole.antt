@@ -2,12 +2,12 @@
 use Rattle.laws.specs.Kit.{_≡_, refl, sym, ap, _∙_, List, [], _++_, append-assoc, append-nil, ℕ, _+_, _-_, _*_, _/_, _%_, _≤_, arith, length, take, drop, length-take, length-drop, drop-of-length-le, drop-drop}
 use Rattle.laws.specs.Lists.{until}
 use Rattle.laws.specs.Bytes.{number, value}
-use Rattle.laws.specs.Bytes.Laws.{part-take}
+use Rattle.laws.specs.Bytes.Laws.{part-length, part-take}
 use Rattle.laws.specs.Slices.{rest-slice}
 use Rattle.laws.specs.Cut.{cut, join}
 use Rattle.laws.specs.Cut.Laws.{cut-drop, join-cut, join-append}
 use Rattle.laws.specs.InPlace.{over}
-use Rattle.paper.specs.Layout.{Bytes, Block, nOf}
+use Rattle.paper.specs.Layout.{Bytes, Block, nOf, area}
 use Rattle.paper.specs.Book.{dayBlock, slots, isFree, used}
 use Rattle.paper.specs.Message.{headOf, seriesOf}
 use Rattle.paper.specs.Acceptance.{placed, usedAfter, accepted}
@@ -38,11 +38,19 @@ pub lent-handed : (b m : Bytes) (usedCount known : ℕ) (places numbers : List �
 unfolding slots used headOf seriesOf
 lent-handed b m usedCount known places numbers f = rw (rest-slice 512 b, rest-slice 512 m) f
 
-pub lent-looks : (b m : Bytes) (looked : ℕ)
-    → looked ≡ length (visited (placed (until isFree (cut 512 (take (length b - 512) (drop 512 b)))) (take 512 m) (cut 512 (take (length m - 512) (drop 512 m)))))
-    → looked ≡ length (visited (placed (used b) (headOf m) (seriesOf m)))
+pub lent-looks : (b m ours : Bytes) → ours ≡ area (dayBlock b) → (looked : ℕ)
+    → looked ≡ length (visited (placed ours (until isFree (cut 512 (take (length b - 512) (drop 512 b)))) (take 512 m) (cut 512 (take (length m - 512) (drop 512 m)))))
+    → looked ≡ length (visited (placed (area (dayBlock b)) (used b) (headOf m) (seriesOf m)))
 unfolding slots used headOf seriesOf
-lent-looks b m looked e = e ∙ rw (rest-slice 512 b, rest-slice 512 m) refl
+lent-looks b m ours o looked e = e ∙ rw (rest-slice 512 b, rest-slice 512 m, o) refl
+
+pub slots-length : (b : Bytes) → length (take (length b - 512) (drop 512 b)) ≡ length b - 512
+slots-length b = ap length (rest-slice 512 b) ∙ length-drop 512 b
+
+-- the area is read of the whole book
+pub area-read : (b a : Bytes) → 512 ≤ length b → a ≡ area b → (a ≡ area (dayBlock b)) × (length a ≡ 16)
+unfolding area dayBlock
+area-read b a h e = (e ∙ sym (part-take 24 16 512 b (omega arith)), ap length e ∙ part-length 24 16 b (omega arith))
 
 module _ (b m : Bytes) (f : Fits b m) where
   pub head-lent : (512 ≡ length (take 512 m)) × (512 ≤ length m)
@@ -53,18 +61,21 @@ module _ (b m : Bytes) (f : Fits b m) where
   unfolding nOf dayBlock number
   n-day n e = e ∙ ap value (sym (part-take 1 1 512 b (omega arith)))
 
-  pub lent-placing : (n : ℕ) → n ≡ nOf b
-      → Placing n (length (cut 512 (take (length b - 512) (drop 512 b)))) (until isFree (cut 512 (take (length b - 512) (drop 512 b)))) (take 512 m) (cut 512 (take (length m - 512) (drop 512 m)))
-  unfolding slots used headOf seriesOf
-  lent-placing n e = rw (rest-slice 512 b, rest-slice 512 m, n-day n e) (f .placing)
+  pub book-long : 512 ≤ length b
+  book-long = let h : 1 ≤ length b / 512 = f .least in omega arith
 
-  pub lent-accepted : (n : ℕ) → n ≡ nOf b → (y : Bytes) → length y ≡ length b - 512
-      → cut 512 y ≡ over (usedAfter n (until isFree (cut 512 (take (length b - 512) (drop 512 b)))) (take 512 m) (cut 512 (take (length m - 512) (drop 512 m)))) (cut 512 (take (length b - 512) (drop 512 b)))
+  pub lent-placing : (n : ℕ) → n ≡ nOf b → (ours : Bytes) → ours ≡ area (dayBlock b)
+      → Placing n ours (length (cut 512 (take (length b - 512) (drop 512 b)))) (until isFree (cut 512 (take (length b - 512) (drop 512 b)))) (take 512 m) (cut 512 (take (length m - 512) (drop 512 m)))
+  unfolding slots used headOf seriesOf
+  lent-placing n e ours o = rw (rest-slice 512 b, rest-slice 512 m, n-day n e, o) (f .placing)
+
+  pub lent-accepted : (n : ℕ) → n ≡ nOf b → (ours : Bytes) → ours ≡ area (dayBlock b) → (y : Bytes) → length y ≡ length b - 512
+      → cut 512 y ≡ over (usedAfter n ours (until isFree (cut 512 (take (length b - 512) (drop 512 b)))) (take 512 m) (cut 512 (take (length m - 512) (drop 512 m)))) (cut 512 (take (length b - 512) (drop 512 b)))
       → take 512 b ++ (y ++ drop (length b - 512) (drop 512 b)) ≡ accepted b m
   unfolding slots used headOf seriesOf accepted
-  lent-accepted n e y z q =
+  lent-accepted n e ours o y z q =
       let w : length b % 512 ≡ 0 = f .whole in
       let i : n ≡ nOf (dayBlock b) = n-day n e in
-      let t : cut 512 y ≡ over (usedAfter (nOf (dayBlock b)) (used b) (headOf m) (seriesOf m)) (cut 512 (drop 512 b)) = rw (rest-slice 512 b, rest-slice 512 m, i) at q in
-      let j = joined (usedAfter (nOf (dayBlock b)) (used b) (headOf m) (seriesOf m)) (drop 512 b) y (omega (arith, length-drop 512 b)) (omega (arith, length-drop 512 b)) t in
-      put-back b y (usedAfter (nOf (dayBlock b)) (used b) (headOf m) (seriesOf m)) j
+      let t : cut 512 y ≡ over (usedAfter (nOf (dayBlock b)) (area (dayBlock b)) (used b) (headOf m) (seriesOf m)) (cut 512 (drop 512 b)) = rw (rest-slice 512 b, rest-slice 512 m, i, o) at q in
+      let j = joined (usedAfter (nOf (dayBlock b)) (area (dayBlock b)) (used b) (headOf m) (seriesOf m)) (drop 512 b) y (omega (arith, length-drop 512 b)) (omega (arith, length-drop 512 b)) t in
+      put-back b y (usedAfter (nOf (dayBlock b)) (area (dayBlock b)) (used b) (headOf m) (seriesOf m)) j

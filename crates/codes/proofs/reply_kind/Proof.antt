@@ -1,4 +1,4 @@
--- 1 and 17 are known by number, the mail by the missing code.
+-- 1, 17 and 40 are known by number, the mail by the missing code.
 use Rattle.laws.specs.Kit.{sym, _∙_, _or_, is, is-equal, is-other}
 use Rattle.paper.specs.Codes.{replyKind}
 use Rattle.codes.proofs.reply_kind.Statement.{statement}

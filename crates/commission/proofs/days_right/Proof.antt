@@ -5,14 +5,16 @@ use Rattle.commission.proofs.days_right.Tie as tie
 
 returns : tie.Need-returns
 returns c =
-    let last = c .before in
-    let listed = last .before in
-    let first = listed .before in
-    let closed = first .before in
+    let listed = c .before in
+    let pairs = listed .before in
+    let last = pairs .before in
+    let first = last .before in
+    let rights = first .before in
+    let closed = rights .before in
     let versions = closed .before in
-    both-true (c .both3 .ensures)
-    (both-true (first .both .ensures) (versions .before .leads-right .ensures) (versions .versions-right .ensures))
-    (both-true (last .both2 .ensures) (closed .closed-right .ensures) (listed .listed-right .ensures))
+    both-true (c .both4 .ensures)
+    (both-true (pairs .both3 .ensures) (both-true (first .both .ensures) (versions .before .leads-right .ensures) (versions .versions-right .ensures)) (both-true (last .both2 .ensures) (closed .closed-right .ensures) (rights .rights-right .ensures)))
+    (listed .listed-right .ensures)
 
 pub days-right-spec : {M : Type 1} → statement M
-days-right-spec = tie.close (tie.spec (λ c κs. tt) (λ c κs. tt) (λ c κs. tt) (λ c κs. tt) (λ c κs. tt) (λ c κs. tt) (λ c κs. tt) returns)
+days-right-spec = tie.close (tie.spec (λ c κs. tt) (λ c κs. tt) (λ c κs. tt) (λ c κs. tt) (λ c κs. tt) (λ c κs. tt) (λ c κs. tt) (λ c κs. tt) (λ c κs. tt) returns)

@@ -14,9 +14,9 @@ sender c =
     let o = p .before .before .before in
     let t = o .before .before .before in
     let i = t .before in
-    let a = i .before .before .before .before in
+    let a = i .before .before .before .before .before in
     cut-lent (withNets (entries (o .own-nets .result) 100)) (now (a .args .us)) (a .args .i) (a .pre .0) (p .put-nets .ensures) (omega arith)
-    ∙ ap (set (cut 512 (now (a .args .us))) (a .args .i)) (sender-becomes _ _ _ (i .before .block-at .ensures) (i .is-sender .ensures) (t .if1 .taken) (o .before .block-at2 .ensures) (o .own-nets .ensures))
+    ∙ ap (set (cut 512 (now (a .args .us))) (a .args .i)) (sender-becomes _ _ _ _ (i .before .block-at .ensures) (i .is-sender .ensures) (t .if1 .taken) (o .before .block-at2 .ensures) (o .own-nets .ensures))
 
 series : tie.Need-returns-2
 series c =
@@ -24,16 +24,16 @@ series c =
     let m = w .before .before .before in
     let t = m .before .before .before in
     let i = t .before in
-    let a = i .before .before .before .before .before .before .before .before in
+    let a = i .before .before .before .before .before .before .before .before .before in
     cut-lent (withMark (m .mark-in .result)) (now (a .args .us)) (a .args .i) (a .pre .0) (w .write-mark .ensures) (omega arith)
-    ∙ ap (set (cut 512 (now (a .args .us))) (a .args .i)) (series-becomes _ _ _ (i .before .block-at3 .ensures) (i .is-series .ensures) (t .if2 .taken) (m .before .block-at4 .ensures) (m .mark-in .ensures))
+    ∙ ap (set (cut 512 (now (a .args .us))) (a .args .i)) (series-becomes _ _ _ _ (i .before .block-at3 .ensures) (i .is-series .ensures) (t .if2 .taken) (m .before .block-at4 .ensures) (m .mark-in .ensures))
 
 other : tie.Need-returns-3
 other c =
     let i = c .before in
     let e = i .before .before .before in
     let s = e .before in
-    other-stays _ _ _ (s .before .block-at .ensures) (s .is-sender .ensures) (e .if1 .left) (i .before .block-at3 .ensures) (i .is-series .ensures) (c .if2 .left)
+    other-stays _ _ _ _ (s .before .block-at .ensures) (s .is-sender .ensures) (e .if1 .left) (i .before .block-at3 .ensures) (i .is-series .ensures) (c .if2 .left)
 
 pub convert-block-spec : {M : Type 1} → statement M
 convert-block-spec =
@@ -54,7 +54,7 @@ convert-block-spec =
     (λ c κs. tt)
     (λ c κs. tt)
     (λ c κs. tt)
-    (λ c κs. let a = c .before .before .before .before .before .before .before .before .before .before .before in (a .pre .1, a .pre .2, a .pre .3))
+    (λ c κs. let a = c .before .before .before .before .before .before .before .before .before .before .before .before in (a .pre .1, a .pre .2, a .pre .3))
     (λ c. omega arith)
     (λ c. omega arith)
     (λ c. omega arith)

@@ -9,29 +9,29 @@ use Rattle.conversion.proofs.convert_each.Statement.{statement}
 use Rattle.conversion.proofs.convert_each.Tie as tie
 
 abbrev Inv-loop : tie.InvT-loop
-Inv-loop us₀ n heads nexts blocks i₀ us i = (i ≤ blocks) × (blocks ≡ length us₀ / 512) × (length us ≡ length us₀) × (cut 512 us ≡ done (convertedBlock n) (cut 512 us₀) i)
+Inv-loop us₀ n ours heads nexts blocks i₀ us i = (i ≤ blocks) × (blocks ≡ length us₀ / 512) × (length us ≡ length us₀) × (cut 512 us ≡ done (convertedBlock n ours) (cut 512 us₀) i)
 
 abbrev μ-loop : tie.MeasureT-loop
-μ-loop us₀ n heads nexts blocks i₀ us i = blocks - i
+μ-loop us₀ n ours heads nexts blocks i₀ us i = blocks - i
 
 convert-requires : tie.Need-convert-block-requires Inv-loop μ-loop
 convert-requires c κs =
     let i = c .before .before in
-    let a = i .before .before in
-    (omega arith, a .pre .0, omega arith, links-kept _ (cut 512 (now (a .args .us))) _ (i .loop .i) (i .loop .inv .3) _ _ (a .pre .2))
+    let a = i .before .before .before in
+    (omega arith, a .pre .0, omega arith, links-kept _ _ (cut 512 (now (a .args .us))) _ (i .loop .i) (i .loop .inv .3) _ _ (a .pre .2))
 
 loop-again : tie.Need-loop-again Inv-loop μ-loop
 loop-again c =
     let m = c .before .before in
     let i = m .before .before .before in
-    let a = i .before .before in
-    (omega arith, i .loop .inv .1, omega arith, done-more (shown _) (convertedBlock _) (converted-shows _) (converted-reads _) (cut 512 (now (a .args .us))) (i .loop .i) [] (omega (arith, cut-length 512 (now (a .args .us)))) _ _ (i .loop .inv .3) (m .convert-block .ensures))
+    let a = i .before .before .before in
+    (omega arith, i .loop .inv .1, omega arith, done-more (shown _ _) (convertedBlock _ _) (converted-shows _ _) (converted-reads _ _) (cut 512 (now (a .args .us))) (i .loop .i) [] (omega (arith, cut-length 512 (now (a .args .us)))) _ _ (i .loop .inv .3) (m .convert-block .ensures))
 
 returns : tie.Need-returns Inv-loop μ-loop
 unfolding usedConverted
 returns c =
     let i = c .before in
-    let a = i .before .before in
+    let a = i .before .before .before in
     i .loop .inv .3 ∙ done-all _ _ (i .loop .i) (omega (arith, cut-length 512 (now (a .args .us))))
 
 pub convert-each-spec : {M : Type 1} → statement M

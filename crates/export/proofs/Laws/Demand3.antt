@@ -13,6 +13,7 @@ use Rattle.paper.specs.Acceptance.{submitted}
 use Rattle.paper.specs.Looks.{submitAnswer}
 use Rattle.paper.specs.Opening.{Opening, openNumber, openAnswer, opened}
 use Rattle.paper.specs.Clock.{clockMoved}
+use Rattle.paper.specs.Rights.{entered}
 use Rattle.paper.specs.Conversion.{conversionNumber, converted, keptMessages}
 use Rattle.paper.specs.Finals.{final}
 use Rattle.paper.specs.PlainRun.{plainRun}
@@ -20,9 +21,9 @@ use Rattle.paper.specs.Readings.{markAnswer, acceptedBlock}
 use Rattle.promises.specs.Laws.Invariant.{Invariant, content-plain}
 use Rattle.promises.specs.Laws.PlainMarks.{says-yes}
 use Rattle.promises.specs.Promises.{refused-opening-changes-nothing}
-use Rattle.promises.specs.Kept.{opening-begins, conversion-begins, conversion-leaves, clock-keeps, submission-keeps, sound-book, mark-as-ruled, partner-as-ruled, accepted-block-as-sent, no-accepted-block, final-as-sent, final-later, final-after-conversion}
+use Rattle.promises.specs.Kept.{opening-begins, conversion-begins, conversion-leaves, clock-keeps, entering-keeps, submission-keeps, sound-book, mark-as-ruled, partner-as-ruled, accepted-block-as-sent, no-accepted-block, final-as-sent, final-later, final-after-conversion}
 use Rattle.promises.specs.Words.{messagesAfter, Later}
-use Rattle.export.specs.Demand3.{Partner, Demand3, FinalsStay, OpeningKeeps, ConversionKeeps, ClockKeeps, SubmissionKeeps, MarkByMessages, BlockByMessages, FinalByMessages, PlainRunSaysYes}
+use Rattle.export.specs.Demand3.{Partner, Demand3, FinalsStay, OpeningKeeps, ConversionKeeps, ClockKeeps, EnteringKeeps, SubmissionKeeps, MarkByMessages, BlockByMessages, FinalByMessages, PlainRunSaysYes}
 
 demand3 : (book : Bytes) (messages : List Bytes) → Invariant book messages → Demand3 book messages
 unfolding Partner
@@ -60,6 +61,10 @@ conversion-kept b e = (
 pub clock-kept : (b : Bytes) (minute : ℕ) {c : Bytes} → c ≡ clockMoved b minute → ClockKeeps b c
 unfolding ClockKeeps
 clock-kept b minute e messages v = kept b e refl (clock-keeps b messages (v .invariant) minute)
+
+pub entering-kept : (b block : Bytes) {c : Bytes} → c ≡ entered b block → EnteringKeeps b c
+unfolding EnteringKeeps
+entering-kept b block e messages v = kept b e refl (entering-keeps b messages (v .invariant) block)
 
 counted : (b m : Bytes) (messages : List Bytes) {r : SubmitAnswer} → r ≡ submitAnswer b m
     → messagesAfter b m messages ≡ cond (is (r .verdict .number) 0) (messages ++ m ∷ []) messages

@@ -6,7 +6,7 @@ use Rattle.index.proofs.bucket.Tie as tie
 
 returns : tie.Need-returns
 unfolding bucket
-returns c = (rw (c .pair-tag-of .ensures), omega arith)
+returns c = (rw (c .key-tag-of .ensures), omega arith)
 
 pub bucket-spec : {M : Type 1} → statement M
 bucket-spec = tie.close (tie.spec

@@ -2,28 +2,28 @@
 use Rattle.laws.specs.Kit.{needs, arith, _≡_, _≤_, _-_, _/_, length}
 use Rattle.laws.specs.Cut.{cut}
 use Rattle.laws.specs.Cut.Laws.{cut-length}
+use Rattle.index.specs.Linked.{ownWith}
 use Rattle.index.specs.Linked.Laws.{FoundUpto, found-none, found-more, found-all}
 use Rattle.index.proofs.find_each.Statement.{statement}
 use Rattle.index.proofs.find_each.Tie as tie
 
 abbrev Inv-loop : tie.InvT-loop
-Inv-loop us by heads nexts of found₀ own blocks k₀ found k = (k ≤ length of / 512) × FoundUpto own by (cut 512 us) (cut 512 of) k found × (length found ≡ 1000)
+Inv-loop us by heads nexts of found₀ own blocks k₀ found k = (k ≤ length of / 512) × FoundUpto (ownWith own by) (cut 512 us) (cut 512 of) k found × (length found ≡ 1000)
 
 abbrev μ-loop : tie.MeasureT-loop
 μ-loop us by heads nexts of found₀ own blocks k₀ found k = length of / 512 - k
 
 loop-holds : tie.Need-loop-holds Inv-loop μ-loop
-loop-holds c = (search needs, found-none _ _ _ _ _, search needs)
+loop-holds c = (search needs, found-none _ _ _ _, search needs)
 
 loop-again : tie.Need-loop-again Inv-loop μ-loop
 loop-again c =
-    let v = c .before in
-    let b = v .before in
+    let b = c .before in
     let l = b .before .before in
-    (omega arith, found-more _ _ _ _ _ _ (omega arith) (b .block-at .ensures) (v .key-of .ensures) (c .own-with .ensures .0) (l .loop .inv .1), search needs)
+    (omega arith, found-more _ _ _ _ _ (omega arith) (b .block-at .ensures) (c .own-with .ensures .0) (l .loop .inv .1), search needs)
 
 returns : tie.Need-returns Inv-loop μ-loop
-returns c = found-all _ _ _ _ _ _ (rw (cut-length 512 _) (c .loop-test .left)) (c .before .loop .inv .2) (c .before .loop .inv .1)
+returns c = found-all _ _ _ _ _ (rw (cut-length 512 _) (c .loop-test .left)) (c .before .loop .inv .2) (c .before .loop .inv .1)
 
 pub find-each-spec : {M : Type 1} → statement M
 find-each-spec =
@@ -32,7 +32,6 @@ find-each-spec =
     Inv-loop
     μ-loop
     loop-holds
-    (λ c κs. search needs)
     (λ c κs. search needs)
     (λ c κs. search needs)
     (λ c. omega arith)

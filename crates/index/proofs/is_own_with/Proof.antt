@@ -6,7 +6,7 @@ use Rattle.index.proofs.is_own_with.Tie as tie
 
 returns : tie.Need-returns
 unfolding ownWith _and_
-returns c = simp (c .same .ensures, c .before .key-of .ensures, c .before .before .is-series-of .ensures)
+returns c = simp (c .alike .ensures, c .before .is-series-of .ensures)
 
 pub is-own-with-spec : {M : Type 1} → statement M
-is-own-with-spec = tie.close (tie.spec (λ c κs. search needs) (λ c κs. search needs) (λ c κs. search needs) returns)
+is-own-with-spec = tie.close (tie.spec (λ c κs. tt) (λ c κs. tt) returns)

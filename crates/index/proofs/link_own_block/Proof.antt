@@ -19,7 +19,7 @@ returns-2 c =
     let b = e .before .before in
     let p = b .before .before .pre in
     put _ _ _ _ _ _ (p .0) (rw (cut-length 512 _) (p .1)) (p .2) (p .3) (b .block-at .ensures)
-    (own-in _ _ _ (told (e .before .is-series-of .ensures) (e .if1 .left)) (c .before .bucket .ensures .0 ∙ ap bucket (k .key-of .ensures))) (c .before .bucket .ensures .1)
+    (own-in _ _ _ (told (e .before .is-series-of .ensures) (e .if1 .left)) (c .before .bucket .ensures .0 ∙ ap bucket (k .hashed .ensures))) (c .before .bucket .ensures .1)
 
 pub link-own-block-spec : {M : Type 1} → statement M
 link-own-block-spec =

@@ -17,9 +17,11 @@ use Rattle.laws.specs.Cut.Laws.{cut-length}
 use Rattle.laws.specs.Loops.{placeFrom, place-start, place-go, place-hit}
 use Rattle.laws.specs.Skips.{Skips, none-passes, first-passes, step-at}
 use Rattle.paper.specs.Layout.{Bytes, Block, zeros, pair}
-use Rattle.paper.specs.Book.{isSeries, isSeriesOf}
+use Rattle.paper.specs.Book.{isSeries, isTrade, isSeriesOf, idIs, trade, tradeIs}
+use Rattle.facts.specs.Keys.{key-is-yes, key-parties-agreement}
 use Rattle.index.specs.declared.By.{By}
-use Rattle.index.specs.Linked.{bucket, keyOf, ownIn, seriesIn, Heads, Nexts, Links, ownWith, Found}
+use Rattle.index.specs.declared.By.the-variants.{Id, Key, Trade}
+use Rattle.index.specs.Linked.{bucket, hashed, alike, ownIn, seriesIn, Heads, Nexts, Links, ownWith, FoundBy}
 
 -- ---- a walk on its way, at the place at: w is what f makes of the blocks from there on
 
@@ -235,7 +237,7 @@ module _ (slot : ℕ) (by : By) (x : Block) where
   unfolding ownIn _and_
   own-out e g = rw e
 
-  pub own-in : isSeriesOf slot x ≡ true → {b : ℕ} → b ≡ bucket (keyOf by x) → (g : ℕ) → ownIn slot by g x ≡ is b g
+  pub own-in : isSeriesOf slot x ≡ true → {b : ℕ} → b ≡ bucket (hashed by x) → (g : ℕ) → ownIn slot by g x ≡ is b g
   unfolding ownIn _and_
   own-in e q g = rw (e, q)
 
@@ -248,30 +250,39 @@ module _ (x : Block) where
   unfolding seriesIn _and_
   series-in e q g = rw (e, q)
 
--- what is sought has the key's bucket
-module _ (slot : ℕ) (by : By) (v : Bytes) (x : Block) where
-  pub own-linked : ownWith slot by v x ≡ true → ownIn slot by (bucket v) x ≡ true
-  unfolding ownWith ownIn
-  own-linked e = and-both _ _ (and-left _ _ e) (is-equal _ _ (ap bucket (same-yes _ _ (and-right _ _ e))))
+-- what is sought has the bucket of what it is sought by
+trade-pair : (y x : Block) → tradeIs (trade y) x ≡ true → pair x ≡ pair y
+unfolding trade tradeIs
+trade-pair y x e = split (isTrade y) (λ t. same-yes _ _ (and-right _ _ (rw t at e))) (λ t. clash (rw t at e) refl)
+
+alike-hashed : (by : By) (y x : Block) → alike by y x ≡ true → hashed by x ≡ hashed by y
+unfolding alike hashed idIs
+alike-hashed Id y x e = same-yes _ _ e
+alike-hashed Key y x e = key-parties-agreement x y (key-is-yes _ _ e)
+alike-hashed Trade y x e = trade-pair y x e
+
+pub own-linked : (slot : ℕ) (by : By) (y x : Block) → ownWith slot by y x ≡ true → ownIn slot by (bucket (hashed by y)) x ≡ true
+unfolding ownWith ownIn
+own-linked slot by y x e = and-both _ _ (and-left _ _ e) (is-equal _ _ (ap bucket (alike-hashed by y x (and-right _ _ e))))
 
 -- ---- of each block the place found
 
-unfoldable pub FoundUpto : ℕ → By → List Block → List Block → ℕ → List ℕ → Type 0
-FoundUpto slot by l of i found = (k : ℕ) → k < i → getD found k 0 ≡ place (ownWith slot by (keyOf by (getD of k []))) l
+unfoldable pub FoundUpto : (Block → Block → Bool) → List Block → List Block → ℕ → List ℕ → Type 0
+FoundUpto sought l of i found = (k : ℕ) → k < i → getD found k 0 ≡ place (sought (getD of k [])) l
 
-module _ (slot : ℕ) (by : By) (l of : List Block) where
-  pub found-none : (f : List ℕ) → FoundUpto slot by l of 0 f
+module _ (sought : Block → Block → Bool) (l of : List Block) where
+  pub found-none : (f : List ℕ) → FoundUpto sought l of 0 f
   unfolding FoundUpto
   found-none f k h = absurd (omega arith)
 
-  pub found-more : (i : ℕ) (f : List ℕ) {x : Block} {v : Bytes} {n : ℕ} → i < length f → x ≡ getD of i [] → v ≡ keyOf by x → n ≡ place (ownWith slot by v) l
-      → FoundUpto slot by l of i f → FoundUpto slot by l of (i + 1) (set f i n)
+  pub found-more : (i : ℕ) (f : List ℕ) {y : Block} {n : ℕ} → i < length f → y ≡ getD of i [] → n ≡ place (sought y) l
+      → FoundUpto sought l of i f → FoundUpto sought l of (i + 1) (set f i n)
   unfolding FoundUpto
-  found-more i f h e q r a k c =
+  found-more i f h e r a k c =
       split (less k i)
       (λ t. let w : k < i = less-yes k i t in getD-set-other f i k _ 0 (λ z. omega arith) ∙ a k w)
-      (λ t. let z : k ≡ i = omega (arith, less-no k i t) in rw z (getD-set-same f i _ 0 h ∙ r ∙ ap (λ w. place (ownWith slot by w) l) (q ∙ ap (keyOf by) e)))
+      (λ t. let z : k ≡ i = omega (arith, less-no k i t) in rw z (getD-set-same f i _ 0 h ∙ r ∙ ap (λ y. place (sought y) l) e))
 
-  pub found-all : (i : ℕ) (f : List ℕ) → length of ≤ i → length f ≡ 1000 → FoundUpto slot by l of i f → Found slot by l of f
+  pub found-all : (i : ℕ) (f : List ℕ) → length of ≤ i → length f ≡ 1000 → FoundUpto sought l of i f → FoundBy sought l of f
   unfolding FoundUpto
   found-all i f h r a = record { each = λ k c. a k (omega arith); room = r }

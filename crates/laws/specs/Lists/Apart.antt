@@ -38,6 +38,18 @@ module _ {A : Type 0} where
       let n : p x ≡ false = f x (neg-yes _ (all-getD-inside (λ y. neg (c x y) ≡ true) xs k d (omega arith) (every-all _ xs (and-left _ _ a)))) in
       rw (n, apart-place c p xs k d (omega arith) e f (and-right _ _ a))
 
+  -- a clash by one test is a clash by another, for elements with Q
+  pub apart-imply : (c e : A → A → Bool) (Q : A → Type 0) → ((x y : A) → Q x → Q y → e x y ≡ false → c x y ≡ false) → (l : List A) → All Q l → apart e l ≡ true
+      → apart c l ≡ true
+  unfolding apart
+  apart-imply c e Q g [] q a = refl
+  apart-imply c e Q g (x ∷ xs) q a =
+      and-both _ _ (all-every (λ y. neg (c x y)) xs (one xs (q .1) (every-all _ xs (and-left _ _ a)))) (apart-imply c e Q g xs (q .1) (and-right _ _ a))
+    where
+      one : (l : List A) → All Q l → All (λ y. neg (e x y) ≡ true) l → All (λ y. neg (c x y) ≡ true) l
+      one [] h k = tt
+      one (y ∷ ys) h k = (neg-true _ (g x y (q .0) (h .0) (neg-yes _ (k .0))), one ys (h .1) (k .1))
+
 module _ {A B : Type 0} where
   -- a clash of the new was a clash of the old, for elements with Q
   pub apart-map : (c : B → B → Bool) (e : A → A → Bool) (f : A → B) (Q : A → Type 0) → ((x y : A) → Q x → Q y → e x y ≡ false → c (f x) (f y) ≡ false)

@@ -14,11 +14,11 @@ same-sender c =
     let s = c .before .before .before in
     rw (told (s .before .before .is-series .ensures) (s .before .if1 .left), is-equal _ _ (sym (s .senders-slot .ensures) ∙ c .if2 .taken))
 
-by-pair : tie.Need-returns-3
+by-trade : tie.Need-returns-3
 unfolding isCounterpart _and_ neg
-by-pair c =
+by-trade c =
     let s = c .before .before .before .before in
-    rw (told (s .before .before .is-series .ensures) (s .before .if1 .left), is-other _ _ (λ e. c .before .if2 .left (s .senders-slot .ensures ∙ e))) (c .pair-is .ensures)
+    rw (told (s .before .before .is-series .ensures) (s .before .if1 .left), is-other _ _ (λ e. c .before .if2 .left (s .senders-slot .ensures ∙ e))) (c .same-trade .ensures)
 
 pub is-counterpart-spec : {M : Type 1} → statement M
 is-counterpart-spec =
@@ -28,4 +28,4 @@ is-counterpart-spec =
     (λ c κs. tt)
     same-sender
     (λ c κs. tt)
-    by-pair)
+    by-trade)

@@ -1,4 +1,4 @@
--- The last block is lent and back; before and behind it the message stays.
+-- The last block is lent and back; before and behind it the others stay.
 use Rattle.laws.specs.Kit.{needs, arith, now}
 use Rattle.message_text.proofs.Laws.Lines.{field-back}
 use Rattle.message_text.proofs.lay_field.Statement.{statement}
@@ -8,7 +8,7 @@ returns : tie.Need-returns
 returns c =
     let f = c .before .before in
     let s = f .before .before .before .before .before in
-    (field-back (s .args .series) _ _ (now (s .args .buffer)) (f .fill-block .ensures), search needs)
+    (field-back (s .args .series) _ _ (now (s .args .room)) (f .fill-block .ensures), search needs)
 
 pub lay-field-spec : {M : Type 1} → statement M
 lay-field-spec = tie.close (tie.spec

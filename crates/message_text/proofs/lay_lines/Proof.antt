@@ -1,4 +1,4 @@
--- What the lines passed have made of the message, and the lines ahead, give what all lines give.
+-- What the lines passed have laid, and the lines ahead, give what all lines give.
 use Rattle.laws.specs.Kit.{needs, arith, _≡_, refl, true, _≤_, _<_, _+_, _*_, _-_, length, drop, denied, told, length-drop, now}
 use Rattle.message_words.specs.Words.{lines}
 use Rattle.message_text.specs.MessageText.{laid, withLines}
@@ -7,10 +7,10 @@ use Rattle.message_text.proofs.lay_lines.Statement.{statement}
 use Rattle.message_text.proofs.lay_lines.Tie as tie
 
 abbrev Inv-loop : tie.InvT-loop
-Inv-loop buffer₀ text series₀ number₀ at₀ buffer series number at = (at ≤ length text) × (number ≤ at) × (512 * (series + 1) ≤ length buffer₀) × (length buffer ≡ length buffer₀) × (withLines (length buffer₀) number (laid true series, buffer) (lines (drop at text)) ≡ withLines (length buffer₀) 0 (laid true 0, buffer₀) (lines text))
+Inv-loop room₀ text series₀ number₀ at₀ room series number at = (at ≤ length text) × (number ≤ at) × (512 * (series + 1) ≤ length room₀) × (length room ≡ length room₀) × (withLines number (laid true series, room) (lines (drop at text)) ≡ withLines 0 (laid true 0, room₀) (lines text))
 
 abbrev μ-loop : tie.MeasureT-loop
-μ-loop buffer₀ text series₀ number₀ at₀ buffer series number at = length text - at
+μ-loop room₀ text series₀ number₀ at₀ room series number at = length text - at
 
 loop-holds : tie.Need-loop-holds Inv-loop μ-loop
 loop-holds c = (search needs, search needs, search needs, search needs, refl)
@@ -23,7 +23,7 @@ returns c =
     let l = i .before .loop in
     let t = now (i .before .before .before .before .args .text) in
     let h : 0 < length (drop (l .at) t) = rw (length-drop (l .at) t) (omega arith) in
-    lines-stop _ (l .number) (l .series) (drop (l .at) t) (l .buffer) (l .inv .4) h (x .line-at .ensures) (l .inv .3) (y .lay-line .ensures .0) (denied refl (c .if1 .taken))
+    (lines-stop (l .number) (l .series) (drop (l .at) t) (l .room) (l .inv .4) h (x .line-at .ensures) (y .lay-line .ensures .0) (denied refl (c .if1 .taken)), omega arith)
 
 loop-again : tie.Need-loop-again Inv-loop μ-loop
 loop-again c =
@@ -38,7 +38,7 @@ loop-again c =
       search needs,
       omega (arith, y .lay-line .ensures .1),
       search needs,
-      lines-on _ (l .number) (l .series) (drop (l .at) t) (l .buffer) (l .inv .4) h (x .line-at .ensures) (l .inv .3) (y .lay-line .ensures .0) (told refl (z .if1 .left)) (c .next-line .ensures .0),
+      lines-on (l .number) (l .series) (drop (l .at) t) (l .room) (l .inv .4) h (x .line-at .ensures) (y .lay-line .ensures .0) (told refl (z .if1 .left)) (c .next-line .ensures .0),
     )
 
 returns-2 : tie.Need-returns-2 Inv-loop μ-loop
@@ -46,7 +46,7 @@ returns-2 c =
     let l = c .before .loop in
     let t = now (c .before .before .before .before .args .text) in
     let h : length (drop (l .at) t) ≤ 0 = rw (length-drop (l .at) t) (omega arith) in
-    lines-end _ (l .number) (l .series) (drop (l .at) t) (l .buffer) (l .inv .4) h
+    (lines-end (l .number) (l .series) (drop (l .at) t) (l .room) (l .inv .4) h, l .inv .2)
 
 pub lay-lines-spec : {M : Type 1} → statement M
 lay-lines-spec = tie.close (tie.spec

@@ -1,22 +1,25 @@
--- A field as long as the block leaves nothing of what stood there.
+-- Each field is written as the definition has it, the check last.
 use Rattle.laws.specs.Kit.{needs, arith, _∙_, ap}
-use Rattle.layout.specs.Written.{withFront, withField}
+use Rattle.paper.specs.Check.{sealed}
+use Rattle.layout.specs.Written.{withBusinessType, withField}
 use Rattle.message_text.specs.MessageText.{newBlock}
-use Rattle.message_text.proofs.Laws.Fields.{padded-all}
 use Rattle.message_text.proofs.write_block.Statement.{statement}
 use Rattle.message_text.proofs.write_block.Tie as tie
 
 returns : tie.Need-returns
-unfolding newBlock withField
+unfolding newBlock
 returns c =
-    let f = c .before .before in
-    let z = f .before .before .before .before in
-    f .write-front .ensures ∙ ap (withFront _ _ _) (z .write-field .ensures ∙ padded-all 512 _ _ (z .before .before .before .before .pre))
+    let s = c .before .before in
+    let i = s .before .before .before .before in
+    let t = i .before .before .before .before in
+    let f = t .before .before .before .before in
+    s .seal .ensures ∙ ap sealed (i .write-field .ensures ∙ ap (withField _ _) (t .write-business-type .ensures ∙ ap (withBusinessType _) (f .write-front .ensures)))
 
 pub write-block-spec : {M : Type 1} → statement M
 write-block-spec = tie.close (tie.spec
-    (λ c. omega arith)
-    (λ c. omega arith)
-    (λ c. omega arith)
+    (search needs)
+    (search needs)
+    (λ c κs. omega arith)
+    (search needs)
     (search needs)
     returns)

@@ -7,10 +7,10 @@ use Rattle.nets.proofs.add_all.Statement.{statement}
 use Rattle.nets.proofs.add_all.Tie as tie
 
 abbrev Inv-loop : tie.InvT-loop
-Inv-loop sums₀ e series many i₀ sums i = (i ≤ length series / 512) × (length sums ≡ 100) × Raised 100 (shares (share e) (take i (cut 512 series))) sums₀ sums
+Inv-loop sums₀ ours e series many i₀ sums i = (i ≤ length series / 512) × (length sums ≡ 100) × Raised 100 (shares (share ours e) (take i (cut 512 series))) sums₀ sums
 
 abbrev μ-loop : tie.MeasureT-loop
-μ-loop sums₀ e series many i₀ sums i = length series / 512 - i
+μ-loop sums₀ ours e series many i₀ sums i = length series / 512 - i
 
 more : tie.Need-loop-again Inv-loop μ-loop
 more c =

@@ -1,4 +1,4 @@
--- The sums are raised where the sender is the in party, and else are as they were.
+-- The sums are raised where the series counts +, and else are as they were.
 use Rattle.laws.specs.Kit.{arith}
 use Rattle.nets.specs.Sums.{boughtShare}
 use Rattle.nets.proofs.Laws.Raising.{raised-agree, raised-still}
@@ -10,12 +10,12 @@ unfolding boughtShare
 buyer c =
     let q = c .before .before in
     let i = q .before .before in
-    raised-agree _ _ _ _ _ (λ k. rw (← i .before .before .in-party .ensures, ← i .before .same .ensures, i .if1 .taken)) (q .add-quantities .ensures)
+    raised-agree _ _ _ _ _ (λ k. rw (← i .before .comes-in .ensures, i .if1 .taken)) (q .add-quantities .ensures)
 
 other : tie.Need-returns-2
 unfolding boughtShare
-other c = raised-still _ _ _ (λ k. rw (← c .before .before .in-party .ensures, ← c .before .same .ensures, c .if1 .left))
+other c = raised-still _ _ _ (λ k. rw (← c .before .comes-in .ensures, c .if1 .left))
 
 pub add-bought-spec : {M : Type 1} → statement M
 add-bought-spec =
-    tie.close (tie.spec (λ c κs. tt) (λ c κs. tt) (λ c κs. omega arith) (λ c. omega arith) buyer other)
+    tie.close (tie.spec (λ c κs. tt) (λ c κs. omega arith) (λ c. omega arith) buyer other)

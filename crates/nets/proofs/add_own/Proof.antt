@@ -7,10 +7,10 @@ use Rattle.nets.proofs.add_own.Statement.{statement}
 use Rattle.nets.proofs.add_own.Tie as tie
 
 abbrev Inv-loop : tie.InvT-loop
-Inv-loop sums₀ e us own many i₀ sums i = (i ≤ length us / 512) × (length sums ≡ 100) × Raised 100 (shares (ownShare e own) (take i (cut 512 us))) sums₀ sums
+Inv-loop sums₀ ours e us own many i₀ sums i = (i ≤ length us / 512) × (length sums ≡ 100) × Raised 100 (shares (ownShare ours e own) (take i (cut 512 us))) sums₀ sums
 
 abbrev μ-loop : tie.MeasureT-loop
-μ-loop sums₀ e us own many i₀ sums i = length us / 512 - i
+μ-loop sums₀ ours e us own many i₀ sums i = length us / 512 - i
 
 more : tie.Need-loop-again Inv-loop μ-loop
 more c =

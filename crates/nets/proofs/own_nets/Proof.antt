@@ -13,9 +13,9 @@ returns c =
     let a = c .before in
     let s = a .before .before .before in
     let k = s .before .before in
-    let start = k .before in
+    let start = k .before .before in
     rw (← s .sender .ensures)
-    (nets-own _ _ _ _ _ (few-cut (start .args .us .now) (k .shared-slice-known .given) (start .pre)) refl (a .before .slot-of .ensures) (a .add-own .ensures))
+    (nets-own _ _ _ _ _ _ (few-cut (start .args .us .now) (k .shared-slice-known2 .given) (start .pre)) refl (a .before .slot-of .ensures) (a .add-own .ensures))
 
 pub own-nets-spec : {M : Type 1} → statement M
 own-nets-spec = tie.close (tie.spec (λ c κs. tt) (λ c. omega arith) (λ c κs. tt) (λ c κs. omega arith) returns)

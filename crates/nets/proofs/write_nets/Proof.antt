@@ -13,8 +13,8 @@ returns c =
     let p = c .before .before in
     let a = p .before .before .before .before in
     let k = a .before .before in
-    let start = k .before .before .before in
-    p .put-nets .ensures ∙ ap (λ v. withNets v (now (start .args .s))) (entries-nets _ _ _ _ (few-cut (start .args .series .now) (k .shared-slice-known2 .given) (start .pre)) refl (a .add-all .ensures))
+    let start = k .before .before .before .before in
+    p .put-nets .ensures ∙ ap (λ v. withNets v (now (start .args .s))) (entries-nets _ _ _ _ _ (few-cut (start .args .series .now) (k .shared-slice-known3 .given) (start .pre)) refl (a .add-all .ensures))
 
 pub write-nets-spec : {M : Type 1} → statement M
 write-nets-spec = tie.close (tie.spec (λ c. omega arith) (λ c κs. omega arith) (λ c κs. tt) (λ c. omega arith) returns)

@@ -7,10 +7,10 @@ use Rattle.plain_run.proofs.every_net_true.Statement.{statement}
 use Rattle.plain_run.proofs.every_net_true.Tie as tie
 
 abbrev Inv-loop : tie.InvT-loop
-Inv-loop us many ok₀ i₀ ok i = (i ≤ length us / 512) × (every (netsTrue (cut 512 us)) (cut 512 us) ≡ (ok and every (netsTrue (cut 512 us)) (drop i (cut 512 us))))
+Inv-loop ours us many ok₀ i₀ ok i = (i ≤ length us / 512) × (every (netsTrue ours (cut 512 us)) (cut 512 us) ≡ (ok and every (netsTrue ours (cut 512 us)) (drop i (cut 512 us))))
 
 abbrev μ-loop : tie.MeasureT-loop
-μ-loop us many ok₀ i₀ ok i = length us / 512 - i
+μ-loop ours us many ok₀ i₀ ok i = length us / 512 - i
 
 more : tie.Need-loop-again Inv-loop μ-loop
 more c =

@@ -1,5 +1,5 @@
--- Two rows of series that agree in content under every pair agree under every id too, if in each no id and no pair stands twice: a series is then the only one
--- with its pair and the only one with its id, and id and pair are of its content.
+-- Two rows of series that agree in content under every key agree under every id too, if in each no id and no key stands twice: a series is then the only one
+-- with its key and the only one with its id, and id and key are of its content.
 use Rattle.laws.specs.Base.{_≡_, refl, sym, ap, _∙_, Bool, true, false, true≢false, Option, none, some, Option·map, List, [], _∷_, _++_, ℕ, zero, suc, _+_, _≤_, arith, length, length-append}
 use Rattle.laws.specs.Tests.{neg}
 use Rattle.laws.specs.Tests.Laws.{split, clash, and-left, and-right, and-both, neg-yes, neg-true, or-yes-left, or-yes-right}
@@ -9,10 +9,11 @@ use Rattle.laws.specs.Lists.Each.{all-nth, all-imply, all-both, all-find, every
 use Rattle.laws.specs.Lists.Search.{find-passes, find-sieve, nth-place}
 use Rattle.laws.specs.Bytes.{part}
 use Rattle.laws.specs.Bytes.Laws.{part-length, part-part, part-append-left, part-over}
-use Rattle.paper.specs.Layout.{Bytes, Block, idOf, pair}
-use Rattle.paper.specs.Book.{idIs, pairIs, slotOf, isSeriesOf, isSeriesOfPair, ownSeries}
-use Rattle.facts.specs.Verdict.{sameIdOrPair}
-use Rattle.facts.specs.Pairs.{pair-is-yes, pair-is-equal, of-pair-own, of-pair-other, viewFound, viewHeld}
+use Rattle.paper.specs.Layout.{Bytes, Block, idOf, key}
+use Rattle.paper.specs.Book.{idIs, keyIs, slotOf, isSeriesOf, ownSeries}
+use Rattle.facts.specs.Verdict.{sameIdOrKey}
+use Rattle.facts.specs.Keys.{key-equal, key-is-yes, key-is-equal}
+use Rattle.facts.specs.Pairs.{ofSlot, of-slot-where-own, of-slot-other, viewFound, viewHeld}
 use Rattle.promises.specs.Words.{content}
 
 -- ---- distinct elements
@@ -58,7 +59,7 @@ module _ {A : Type 0} where
       (all-both Q (λ y. neg (e x y) ≡ true) xs (q .1) (every-all _ xs (and-left _ _ a)))))
       (apart-less c e Q g xs (q .1) (and-right _ _ a))
 
--- ---- id and pair are of the content
+-- ---- id and key are of the content
 
 content-middle : (x : Block) → length x ≡ 512 → (o n : ℕ) → o + n ≤ 96 → part (6 + o) n (content x) ≡ part (8 + o) n x
 unfolding content
@@ -72,16 +73,23 @@ content-id : (x y : Block) → length x ≡ 512 → length y ≡ 512 → content
 unfolding idOf
 content-id x y l k e = sym (content-middle x l 0 16 (omega arith)) ∙ ap (part 6 16) e ∙ content-middle y k 0 16 (omega arith)
 
-pub content-pair : (x y : Block) → length x ≡ 512 → length y ≡ 512 → content x ≡ content y → pair x ≡ pair y
-unfolding pair
-content-pair x y l k e = sym (content-middle x l 48 32 (omega arith)) ∙ ap (part 54 32) e ∙ content-middle y k 48 32 (omega arith)
+content-types : (x : Block) → length x ≡ 512 → part 4 2 (content x) ≡ part 4 2 x
+unfolding content
+content-types x l =
+    let a : length (part 0 6 x) ≡ 6 = part-length 0 6 x (omega arith) in
+    part-append-left 4 2 (part 0 6 x ++ part 8 96 x) (part 108 400 x) (omega (arith, length-append (part 0 6 x) (part 8 96 x)))
+    ∙ part-append-left 4 2 (part 0 6 x) (part 8 96 x) (omega arith) ∙ part-part 0 6 4 2 x (omega arith)
+
+pub content-key : (x y : Block) → length x ≡ 512 → length y ≡ 512 → content x ≡ content y → key x ≡ key y
+content-key x y l k e = key-equal x y (sym (content-types x l) ∙ ap (part 4 2) e ∙ content-types y k)
+    (sym (content-middle x l 16 80 (omega arith)) ∙ ap (part 22 80) e ∙ content-middle y k 16 80 (omega arith))
 
 -- ---- a sender's series, among the used slots us
 
-pub own-viewed : (view : Block → Bytes) (us : List Block) (e p : Bytes) → viewFound view (pairIs p) (ownSeries us e) ≡ viewHeld view us e p
+pub own-viewed : (view : Block → Bytes) (us : List Block) (e : Bytes) (q : Block → Bool) → viewFound view q (ownSeries us e) ≡ viewHeld view us e q
 unfolding viewFound viewHeld ownSeries
-own-viewed view us e p = ap (Option·map view) (find-sieve (pairIs p) (isSeriesOf (slotOf us e)) (isSeriesOfPair (slotOf us e) p) (of-pair-own (slotOf us e) p)
-    (of-pair-other (slotOf us e) p) us)
+own-viewed view us e q = ap (Option·map view) (find-sieve q (isSeriesOf (slotOf us e)) (ofSlot (slotOf us e) q) (of-slot-where-own (slotOf us e) q)
+    (of-slot-other (slotOf us e) q) us)
 
 -- ---- found by its id
 
@@ -93,42 +101,42 @@ id-is-equal : (id : Bytes) (x : Block) → idOf x ≡ id → idIs id x ≡ true
 unfolding idIs
 id-is-equal id x e = same-equal _ _ e
 
-found-by-pair : (l : List Block) → apart sameIdOrPair l ≡ true → (id : Bytes) (x : Block) → find (idIs id) l ≡ some x → find (pairIs (pair x)) l ≡ some x
-unfolding sameIdOrPair
-found-by-pair l a id x e = apart-find-other sameIdOrPair (idIs id) (pairIs (pair x)) l a x e (pair-is-equal (pair x) x refl)
-    (λ y t. or-yes-right _ _ (same-equal _ _ (pair-is-yes (pair x) y t)))
+found-by-key : (l : List Block) → apart sameIdOrKey l ≡ true → (id : Bytes) (x : Block) → find (idIs id) l ≡ some x → find (keyIs (key x)) l ≡ some x
+unfolding sameIdOrKey
+found-by-key l a id x e = apart-find-other sameIdOrKey (idIs id) (keyIs (key x)) l a x e (key-is-equal (key x) x refl)
+    (λ y t. or-yes-right _ _ (same-equal _ _ (key-is-yes (key x) y t)))
 
-found-by-id : (l : List Block) → apart sameIdOrPair l ≡ true → (p : Bytes) (x : Block) → find (pairIs p) l ≡ some x → find (idIs (idOf x)) l ≡ some x
-unfolding sameIdOrPair
-found-by-id l a p x e = apart-find-other sameIdOrPair (pairIs p) (idIs (idOf x)) l a x e (id-is-equal (idOf x) x refl)
+found-by-id : (l : List Block) → apart sameIdOrKey l ≡ true → (p : Bytes) (x : Block) → find (keyIs p) l ≡ some x → find (idIs (idOf x)) l ≡ some x
+unfolding sameIdOrKey
+found-by-id l a p x e = apart-find-other sameIdOrKey (keyIs p) (idIs (idOf x)) l a x e (id-is-equal (idOf x) x refl)
     (λ y t. or-yes-left _ _ (same-equal _ _ (id-is-yes (idOf x) y t)))
 
--- a row of whole series, no id and no pair twice
+-- a row of whole series, no id and no key twice
 pub record Row (l : List Block) : Type 0 where
   pub whole : All (λ x. length x ≡ 512) l
-  pub distinct : apart sameIdOrPair l ≡ true
+  pub distinct : apart sameIdOrKey l ≡ true
 
-abbrev ByPair : List Block → List Block → Type 0
-ByPair l r = (p : Bytes) → viewFound content (pairIs p) l ≡ viewFound content (pairIs p) r
+abbrev ByKeys : List Block → List Block → Type 0
+ByKeys l r = (k : Bytes) → viewFound content (keyIs k) l ≡ viewFound content (keyIs k) r
 
 viewed-yes : (o : Option Block) (q : Bytes) → some q ≡ Option·map content o → (y : Block) × (o ≡ some y) × (q ≡ content y)
 viewed-yes none q e = let z : true ≡ false = cc in absurd (true≢false z)
 viewed-yes (some y) q e = (y, refl, cc)
 
 -- what one row has under an id the other has
-pub other-has : (l r : List Block) → Row l → Row r → ByPair l r → (id : Bytes) (x : Block) → find (idIs id) l ≡ some x
-    → (y : Block) × (find (idIs id) r ≡ some y) × (content x ≡ content y) × (pair x ≡ pair y)
+pub other-has : (l r : List Block) → Row l → Row r → ByKeys l r → (id : Bytes) (x : Block) → find (idIs id) l ≡ some x
+    → (y : Block) × (find (idIs id) r ≡ some y) × (content x ≡ content y) × (key x ≡ key y)
 unfolding viewFound
 other-has l r a b f id x e =
-    let g : some (content x) ≡ Option·map content (find (pairIs (pair x)) r) = sym (ap (Option·map content) (found-by-pair l (a .distinct) id x e)) ∙ f (pair x) in
-    let v = viewed-yes (find (pairIs (pair x)) r) (content x) g in
+    let g : some (content x) ≡ Option·map content (find (keyIs (key x)) r) = sym (ap (Option·map content) (found-by-key l (a .distinct) id x e)) ∙ f (key x) in
+    let v = viewed-yes (find (keyIs (key x)) r) (content x) g in
     let y : Block = v .0 in
     let lx : length x ≡ 512 = all-find (λ z. length z ≡ 512) _ l x (a .whole) e in
     let ly : length y ≡ 512 = all-find (λ z. length z ≡ 512) _ r y (b .whole) (v .1) in
     let i : idOf y ≡ id = sym (content-id x y lx ly (v .2)) ∙ id-is-yes id x (find-passes _ l x e) in
-    (y, rw i at (found-by-id r (b .distinct) (pair x) y (v .1)), v .2, content-pair x y lx ly (v .2))
+    (y, rw i at (found-by-id r (b .distinct) (key x) y (v .1)), v .2, content-key x y lx ly (v .2))
 
-pub by-id : (l r : List Block) → Row l → Row r → ByPair l r → (id : Bytes) → viewFound content (idIs id) l ≡ viewFound content (idIs id) r
+pub by-id : (l r : List Block) → Row l → Row r → ByKeys l r → (id : Bytes) → viewFound content (idIs id) l ≡ viewFound content (idIs id) r
 unfolding viewFound
 by-id l r a b f id = by (find (idIs id) l) (find (idIs id) r) refl refl
   where

@@ -1,5 +1,5 @@
 -- Two lists, each of series of one sender in a sound book, with the same contents in whatever order: a test that reads contents alone passes on one of them exactly
--- if it does on the other, and the series under a pair has the same content in both, since a sender has no pair twice.
+-- if it does on the other, and the series under a key has the same content in both, since a sender has no key twice.
 use Rattle.laws.specs.Base.{_≡_, refl, sym, ap, _∙_, Bool, true, false, true≢false, some, List, [], _∷_, _++_, ℕ, _+_, _-_, _≤_, arith, length, take, drop, length-append, drop-at, take-at}
 use Rattle.laws.specs.Tests.{neg}
 use Rattle.laws.specs.Tests.Laws.{split, clash, and-left, and-right, neg-yes}
@@ -10,15 +10,15 @@ use Rattle.laws.specs.Lists.Search.{has-yes, has-no-find, find-passes, find-has
 use Rattle.laws.specs.Lists.Apart.{apart-keep}
 use Rattle.laws.specs.Bytes.{part}
 use Rattle.laws.specs.Bytes.Laws.{part-length, part-part}
-use Rattle.paper.specs.Layout.{Bytes, Block, pair}
-use Rattle.paper.specs.Book.{used, slotOf, isSeriesOf, ownSeries, pairIs}
+use Rattle.paper.specs.Layout.{Bytes, Block, key}
+use Rattle.paper.specs.Book.{used, slotOf, isSeriesOf, ownSeries, keyIs}
 use Rattle.paper.specs.Sound.{sameSeries}
 use Rattle.paper.specs.Rules.{storedOf}
-use Rattle.facts.specs.Layout.{Alike, alike-refl}
+use Rattle.facts.specs.Layout.{Alike, alike-refl, alike-key}
 use Rattle.facts.specs.Book.{series-of-series, series-of-slot, used-lengths}
 use Rattle.facts.specs.Sound.{Sound}
-use Rattle.facts.specs.Pairs.{pair-is-yes, pair-is-equal}
-use Rattle.promises.specs.Laws.SoundApart.{same-series-yes, same-pair-yes}
+use Rattle.facts.specs.Keys.{key-is-yes, key-is-equal}
+use Rattle.promises.specs.Laws.SoundApart.{same-series-yes, same-key-yes}
 use Rattle.promises.specs.Words.{content, contentIs, SameContents}
 
 -- ---- blocks of one content
@@ -46,13 +46,9 @@ content-alike x y h k e =
     ahead : (z : Block) → length z ≡ 512 → length (part 0 6 z ++ part 8 96 z) ≡ 102
     ahead z l = rw (length-append (part 0 6 z) (part 8 96 z), part-length 0 6 z (omega arith), part-length 8 96 z (omega arith))
 
-pub alike-pair : (x y : Block) → Alike x y → pair x ≡ pair y
-unfolding pair
-alike-pair x y a = a .middle 56 32 (omega arith) (omega arith)
-
 -- ---- the series of one sender
 
--- whole blocks, in one sender's slot, no two of them with one id or one pair
+-- whole blocks, in one sender's slot, no two of them with one id or one key
 pub record OfOneSender (own : List Block) : Type 0 where
   pub slot : ℕ
   pub whole : All (λ x. length x ≡ 512) own
@@ -68,21 +64,21 @@ own-of-one-sender book s e = record {
   distinct = apart-keep sameSeries _ (used book) (s .series);
 }
 
--- what any search finds is the one with its pair
-found-by-pair : (slot : ℕ) (own : List Block) → All (λ x. isSeriesOf slot x ≡ true) own → apart sameSeries own ≡ true
-    → (p : Block → Bool) (x : Block) → find p own ≡ some x → find (pairIs (pair x)) own ≡ some x
+-- what any search finds is the one with its key
+found-by-key : (slot : ℕ) (own : List Block) → All (λ x. isSeriesOf slot x ≡ true) own → apart sameSeries own ≡ true
+    → (p : Block → Bool) (x : Block) → find p own ≡ some x → find (keyIs (key x)) own ≡ some x
 unfolding find apart
-found-by-pair slot [] s a p x e = let z : true ≡ false = cc in absurd (true≢false z)
-found-by-pair slot (y ∷ ys) s a p x e = split (p y)
-    (λ t. let f : some y ≡ some x = rw t at e in let i : y ≡ x = cc in rw (i, pair-is-equal (pair x) x refl))
+found-by-key slot [] s a p x e = let z : true ≡ false = cc in absurd (true≢false z)
+found-by-key slot (y ∷ ys) s a p x e = split (p y)
+    (λ t. let f : some y ≡ some x = rw t at e in let i : y ≡ x = cc in rw (i, key-is-equal (key x) x refl))
     (λ t.
     let f : find p ys ≡ some x = rw t at e in
     let n : sameSeries y x ≡ false = neg-yes _ (all-find (λ z. neg (sameSeries y z) ≡ true) p ys x (every-all _ ys (and-left _ _ a)) f) in
     let o : isSeriesOf slot x ≡ true = all-find (λ z. isSeriesOf slot z ≡ true) p ys x (s .1) f in
-    let q : pairIs (pair x) y ≡ false = split (pairIs (pair x) y)
+    let q : keyIs (key x) y ≡ false = split (keyIs (key x) y)
     (λ u. clash (same-series-yes y x (series-of-series slot y (s .0)) (series-of-series slot x o) (series-of-slot slot y (s .0) ∙ sym (series-of-slot slot x o))
-    (same-pair-yes y x (pair-is-yes (pair x) y u))) n) (λ u. u) in
-    rw q (found-by-pair slot ys (s .1) (and-right _ _ a) p x f))
+    (same-key-yes y x (key-is-yes (key x) y u))) n) (λ u. u) in
+    rw q (found-by-key slot ys (s .1) (and-right _ _ a) p x f))
 
 -- ---- two such lists with the same contents
 
@@ -102,9 +98,9 @@ twin own other a b s p x f =
 abbrev pub ReadsContents : (Block → Bool) → Type 0
 ReadsContents p = (x y : Block) → Alike x y → p x ≡ p y
 
-pub pair-reads : (parties : Bytes) → ReadsContents (pairIs parties)
-unfolding pairIs
-pair-reads parties x y a = rw (alike-pair x y a)
+pub key-reads : (k : Bytes) → ReadsContents (keyIs k)
+unfolding keyIs
+key-reads k x y a = rw (alike-key x y a)
 
 has-over : (own other : List Block) → OfOneSender own → OfOneSender other → SameContents own other → (p : Block → Bool) → ReadsContents p → has p own ≡ true
     → has p other ≡ true
@@ -120,11 +116,11 @@ module _ (own other : List Block) (a : OfOneSender own) (b : OfOneSender other) 
 
   pub stored-contents : (y : Block) → Alike (storedOf own y) (storedOf other y)
   unfolding storedOf
-  stored-contents y = split (has (pairIs (pair y)) own)
+  stored-contents y = split (has (keyIs (key y)) own)
       (λ t.
       let x = has-yes _ own t in
       let z = twin own other a b s _ (x .0) (x .1) in
-      let k : pair (z .0) ≡ pair y = sym (alike-pair _ _ (z .2)) ∙ pair-is-yes _ _ (find-passes _ own (x .0) (x .1)) in
-      let f : find (pairIs (pair y)) other ≡ some (z .0) = rw k at (found-by-pair (b .slot) other (b .series) (b .distinct) _ (z .0) (z .1)) in
+      let k : key (z .0) ≡ key y = sym (alike-key _ _ (z .2)) ∙ key-is-yes _ _ (find-passes _ own (x .0) (x .1)) in
+      let f : find (keyIs (key y)) other ≡ some (z .0) = rw k at (found-by-key (b .slot) other (b .series) (b .distinct) _ (z .0) (z .1)) in
       rw (x .1, f) (z .2))
-      (λ t. rw (has-no-find _ own t, has-no-find _ other (sym (has-contents _ (pair-reads (pair y))) ∙ t)) (alike-refl []))
+      (λ t. rw (has-no-find _ own t, has-no-find _ other (sym (has-contents _ (key-reads (key y))) ∙ t)) (alike-refl []))

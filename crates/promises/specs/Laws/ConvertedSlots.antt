@@ -7,8 +7,8 @@ use Rattle.laws.specs.Lists.Search.{place-map-each}
 use Rattle.laws.specs.Lists.Count.{count-map, count-agree}
 use Rattle.laws.specs.Lists.Keep.{keep-map-each, until-length}
 use Rattle.laws.specs.Cut.{join}
-use Rattle.paper.specs.Layout.{Bytes, Block, nOf, sender}
-use Rattle.paper.specs.Book.{dayBlock, slots, isFree, used, isSender, isSeries, numbered, isSenderBlockOf, slotOf, isSeriesOf, ownSeries}
+use Rattle.paper.specs.Layout.{Bytes, Block, nOf, area, sender}
+use Rattle.paper.specs.Book.{dayBlock, slots, isFree, used, isSender, isSeries, isRight, numbered, isSenderBlockOf, slotOf, isSeriesOf, ownSeries}
 use Rattle.paper.specs.Conversion.{usedConverted, converted}
 use Rattle.facts.specs.Book.{no-block-sender, no-block-series, sender-block-own, numbered-map, numbered-inside, slots-length, used-lengths}
 use Rattle.facts.specs.Pairs.{series-of-kept}
@@ -19,6 +19,9 @@ use Rattle.promises.specs.Laws.Rewritten.{used-live, rewritten, Rewrites
 module _ (book : Bytes) (c : Converts book) where
   abbrev d : Block
   d = dayBlock book
+
+  abbrev ours : Bytes
+  ours = area (dayBlock book)
 
   abbrev us : List Block
   us = used book
@@ -34,9 +37,9 @@ module _ (book : Bytes) (c : Converts book) where
 
   -- ---- the used slots are read back as they were written
 
-  pub kind-again : (x : Block) → (isSender (againOf book x) ≡ isSender x) × (isSeries (againOf book x) ≡ isSeries x)
-  unfolding isSender isSeries
-  kind-again x = (rw (kind-converted n us x), rw (kind-converted n us x))
+  pub kind-again : (x : Block) → (isSender (againOf book x) ≡ isSender x) × (isSeries (againOf book x) ≡ isSeries x) × (isRight (againOf book x) ≡ isRight x)
+  unfolding isSender isSeries isRight
+  kind-again x = (rw (kind-converted n ours us x), rw (kind-converted n ours us x), rw (kind-converted n ours us x))
 
   again-length : length after ≡ length us
   unfolding usedConverted
@@ -46,10 +49,10 @@ module _ (book : Bytes) (c : Converts book) where
   unfolding usedConverted used
   rewrites = record {
     was = c .was;
-    whole = all-map (λ x. length x ≡ 512) again us (all-imply (λ x. length x ≡ 512) (λ x. length (again x) ≡ 512) (λ x e. converted-length n us x ∙ e) us (used-lengths book));
-    live = all-map (λ x. (isSender x or isSeries x) ≡ true) again us
-        (all-imply (λ x. (isSender x or isSeries x) ≡ true) (λ x. (isSender (again x) or isSeries (again x)) ≡ true)
-        (λ x e. rw (kind-again x .0, kind-again x .1) e) us (used-live book (c .was)));
+    whole = all-map (λ x. length x ≡ 512) again us (all-imply (λ x. length x ≡ 512) (λ x. length (again x) ≡ 512) (λ x e. converted-length n ours us x ∙ e) us (used-lengths book));
+    live = all-map (λ x. (isSender x or isSeries x or isRight x) ≡ true) again us
+        (all-imply (λ x. (isSender x or isSeries x or isRight x) ≡ true) (λ x. (isSender (again x) or isSeries (again x) or isRight (again x)) ≡ true)
+        (λ x e. rw (kind-again x .0, kind-again x .1, kind-again x .2) e) us (used-live book (c .was)));
     most = omega (arith, again-length);
     fits = let h : 2 ≤ length book / 512 = c .was .least in omega (arith, again-length, until-length isFree (slots book), slots-length book);
   }
@@ -76,29 +79,29 @@ module _ (book : Bytes) (c : Converts book) where
 
   pub slot-converted : (e : Bytes) → slotOf (usedAgainOf book) e ≡ slotOf (used book) e
   unfolding slotOf usedConverted
-  slot-converted e = place-map-each again (isSenderBlockOf e) (isSenderBlockOf e) (sender-block-converted n us e) us
+  slot-converted e = place-map-each again (isSenderBlockOf e) (isSenderBlockOf e) (sender-block-converted n ours us e) us
 
   pub own-converted : (e : Bytes) → ownSeries (usedAgainOf book) e ≡ map (againOf book) (ownSeries (used book) e)
   unfolding ownSeries usedConverted
   own-converted e =
       ap (λ i. keep (isSeriesOf i) (map again us)) (slot-converted e)
-      ∙ keep-map-each again (isSeriesOf (slotOf us e)) (isSeriesOf (slotOf us e)) (series-of-kept again (converted-keeps n us) (slotOf us e)) us
+      ∙ keep-map-each again (isSeriesOf (slotOf us e)) (isSeriesOf (slotOf us e)) (series-of-kept again (converted-keeps n ours us) (slotOf us e)) us
 
   pub count-converted : (i : ℕ) → count (isSeriesOf i) (usedAgainOf book) ≡ count (isSeriesOf i) (used book)
   unfolding usedConverted
   count-converted i =
       count-map again (isSeriesOf i) us ∙ count-agree (λ x. isSeriesOf i (again x)) (isSeriesOf i) us
-      (all-each (λ x. isSeriesOf i (again x) ≡ isSeriesOf i x) (series-of-kept again (converted-keeps n us) i) us)
+      (all-each (λ x. isSeriesOf i (again x) ≡ isSeriesOf i x) (series-of-kept again (converted-keeps n ours us) i) us)
 
   numbered-again : (p : Block → Bool) (i : ℕ) → p [] ≡ false → p (numbered us i) ≡ true → numbered after i ≡ again (numbered us i)
   unfolding usedConverted
   numbered-again p i e t = let r = numbered-inside us i p e t in numbered-map again us i (r .0) (r .1)
 
   pub series-again : (i : ℕ) → isSeries (numbered (used book) i) ≡ true → isSeries (numbered (usedAgainOf book) i) ≡ true
-  series-again i t = ap isSeries (numbered-again isSeries i no-block-series t) ∙ series-converted n us (numbered us i) ∙ t
+  series-again i t = ap isSeries (numbered-again isSeries i no-block-series t) ∙ series-converted n ours us (numbered us i) ∙ t
 
   pub sender-again : (i : ℕ) → isSender (numbered (used book) i) ≡ true
       → isSenderBlockOf (sender (numbered (used book) i)) (numbered (usedAgainOf book) i) ≡ true
   sender-again i t =
       ap (isSenderBlockOf (sender (numbered us i))) (numbered-again isSender i no-block-sender t)
-      ∙ sender-block-converted n us (sender (numbered us i)) (numbered us i) ∙ sender-block-own (numbered us i) t
+      ∙ sender-block-converted n ours us (sender (numbered us i)) (numbered us i) ∙ sender-block-own (numbered us i) t

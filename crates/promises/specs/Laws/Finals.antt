@@ -1,38 +1,43 @@
--- A final value once given stays: the clock does not fall and the lead does not change, so a closed position stays closed; the rule does not change; a pair once held
--- stays held, by rule 16; no message changes a value at a closed position, nor brings one in, by rule 14; and a conversion changes no value.
+-- A final value once given stays: the clock does not fall and the lead does not change, so a closed position stays closed; the rule does not change; a trade once held
+-- stays held, by rule 16, and its id is tied to its key, by rule 7; no message changes a value at a closed position, nor brings one in, by rule 14; and neither a conversion nor a right that is entered changes a value.
 use Rattle.laws.specs.Base.{_≡_, refl, sym, ap, _∙_, Bool, true, false, cond, true≢false, Option, none, some, Option·getD, Option·map, List, [], _∷_, _++_, ℕ, zero, suc, _+_, _-_, _*_, _≤_, _<_, le-refl, le-trans, arith}
 use Rattle.laws.specs.Tests.{_or_, neg, is, less}
 use Rattle.laws.specs.Tests.Laws.{split, or-left, or-right, or-yes-left, or-yes-right, or-else, neg-yes, neg-true, is-yes, is-no, less-no, upto-no, upto-false}
-use Rattle.laws.specs.Lists.{same, find, has}
+use Rattle.laws.specs.Lists.{same, find, has, keep, All}
 use Rattle.laws.specs.Lists.Same.{same-yes}
-use Rattle.laws.specs.Lists.Each.{all-find}
-use Rattle.laws.specs.Lists.Search.{has-yes, has-no-find, find-passes}
+use Rattle.laws.specs.Lists.Each.{all-imply, all-both, all-keep, all-kept, all-find}
+use Rattle.laws.specs.Lists.Search.{has-yes, has-no-find, find-passes, find-agree}
 use Rattle.paper.specs.declared.FinalAnswer.{FinalAnswer}
-use Rattle.paper.specs.Layout.{Bytes, Block, nOf, lead, clockPlus10080, ruleOf, sender, pair, quantities, entry, quantity, withClock}
-use Rattle.paper.specs.Book.{dayBlock, used, ownSeries, pairIs}
+use Rattle.paper.specs.Layout.{Bytes, Block, nOf, lead, clockPlus10080, ruleOf, area, sender, key, quantities, entry, quantity, withClock}
+use Rattle.paper.specs.Book.{dayBlock, used, isSeries, keyIs, tradeIs, slotOf, isSeriesOf, ownSeries}
 use Rattle.paper.specs.Sound.{sound}
 use Rattle.paper.specs.Rules.{numberOf, isOpen, closed, storedOf, verdict}
 use Rattle.paper.specs.Acceptance.{accepted, submitted}
 use Rattle.paper.specs.Finals.{held, isHeld, heldAt, finalRefused, finalIn, final}
 use Rattle.paper.specs.Clock.{clockAnswer, clockMoved}
+use Rattle.paper.specs.Rights.{enterNumber, entered}
 use Rattle.paper.specs.Conversion.{conversionNumber, converted}
-use Rattle.paper.specs.Calls.{Call, Desk, step, run, opening, clockMove, submission, conversion, reading}
+use Rattle.paper.specs.Calls.{Call, Desk, step, run, opening, clockMove, submission, entering, conversion, reading}
 use Rattle.facts.specs.Layout.{clock-with-clock, n-with-clock, lead-with-clock, rule-with-clock, entry-quantities, quantity-nothing, entry-nothing}
 use Rattle.promises.specs.Words.{NotOpened, Unopened, finalGiven, Later}
 use Rattle.facts.specs.Sound.{Sound, sound-says, is-sound, day-n, day-block-length}
 use Rattle.facts.specs.Verdict.{Line, Accepts, accepts}
 use Rattle.facts.specs.Calls.{Moves, moves}
 use Rattle.facts.specs.Conversion.{Converts, converts, conversion-refused}
-use Rattle.facts.specs.Pairs.{pair-is-yes, viewFound, viewHeld, held-viewed}
-use Rattle.promises.specs.Laws.Parts.{Acceptance, parts}
+use Rattle.facts.specs.Book.{series-of-series}
+use Rattle.facts.specs.Pairs.{trade-by-key, viewFound, held-viewed, TradesIn, trade-as-key}
+use Rattle.facts.specs.Trades.{used-trades, sent-trades}
+use Rattle.facts.specs.Rights.{Enters, enters, entering-refused}
+use Rattle.promises.specs.Laws.Parts.{afterOf, Acceptance, parts}
 use Rattle.promises.specs.Laws.Stored.{held-accepted}
-use Rattle.facts.specs.Stored.{present-pair}
+use Rattle.facts.specs.Stored.{present-test}
 use Rattle.promises.specs.Laws.ReadBack.{used-accepted, day-block-accepted}
 use Rattle.promises.specs.Laws.Refusals.{opening-refused, clock-refused, submission-refused, submission-accepted}
 use Rattle.promises.specs.Laws.Soundness.{day-block-moved, used-moved}
 use Rattle.promises.specs.Laws.ConvertedSlots.{day-block-converted}
 use Rattle.promises.specs.Laws.SoundConverted.{sound-converted}
 use Rattle.promises.specs.Laws.Conversion.{held-converted}
+use Rattle.promises.specs.Laws.Entering.{held-beside, used-entered, day-block-entered}
 use Rattle.promises.specs.Laws.ById.{own-viewed}
 use Rattle.promises.specs.Laws.Invariant.{Invariant, invariant-run}
 
@@ -73,13 +78,13 @@ later-moved book minute m =
 
 -- ---- an acceptance
 
--- what the sender holds under a pair is what its stored series has
-own-held : (us : List Block) (e p : Bytes) → viewFound quantities (pairIs p) (ownSeries us e) ≡ held us e p
-own-held us e p = own-viewed quantities us e p ∙ sym (held-viewed us e p)
+-- what the sender holds between two parties is what its stored trade has
+own-held : (us : List Block) (e p : Bytes) → viewFound quantities (tradeIs (some p)) (ownSeries us e) ≡ held us e p
+own-held us e p = own-viewed quantities us e (tradeIs (some p)) ∙ sym (held-viewed us e p)
 
-stored-value : (own : List Block) (y : Block) (k : ℕ) → k < 100 → quantity (storedOf own y) k ≡ heldAt (viewFound quantities (pairIs (pair y)) own) k
+stored-value : (own : List Block) (y : Block) (k : ℕ) → k < 100 → quantity (storedOf own y) k ≡ heldAt (viewFound quantities (keyIs (key y)) own) k
 unfolding storedOf heldAt viewFound
-stored-value own y k h = by (find (pairIs (pair y)) own)
+stored-value own y k h = by (find (keyIs (key y)) own)
   where
     by : (o : Option Block) → quantity (Option·getD o []) k ≡ entry (Option·getD (Option·map quantities o) []) k
     by none = quantity-nothing k ∙ sym (entry-nothing k)
@@ -94,41 +99,50 @@ unfolding viewFound
 not-found p l e = rw e
 
 module _ (book message : Bytes) (a : Accepts book message) where
-  open Acceptance (parts book message) using (us, h, series, own)
+  open Acceptance (parts book message) using (ours, us, h, series, own)
 
-  held-now : (e p : Bytes) → held (used (accepted book message)) e p ≡ cond (same (sender h) e) (viewFound quantities (pairIs p) series) (held us e p)
-  unfolding held viewHeld viewFound
-  held-now e p = ap (λ l. held l e p) (used-accepted book message a) ∙ held-accepted book message a e p
+  held-now : (e p : Bytes) → held (used (accepted book message)) e p ≡ cond (same (sender h) e) (viewFound quantities (tradeIs (some p)) series) (held us e p)
+  held-now e p = ap (λ l. held l e p) (used-accepted book message a) ∙ held-viewed (afterOf book message) e p ∙ held-accepted book message a e p
+      ∙ ap (cond (same (sender h) e) (viewFound quantities (tradeIs (some p)) series)) (sym (held-viewed us e p))
 
-  present : (p : Bytes) → has (pairIs p) own ≡ true → has (pairIs p) series ≡ true
-  present p e = present-pair own series (a .present) p e
+  present : (p : Bytes) → has (tradeIs (some p)) own ≡ true → has (tradeIs (some p)) series ≡ true
+  present p e = present-test own series (a .present) (tradeIs (some p)) (trade-by-key (some p)) e
+
+  own-trades : All (TradesIn (area (dayBlock book))) own
+  unfolding ownSeries
+  own-trades = all-imply (λ x. (isSeries x ≡ true → TradesIn (area (dayBlock book)) x) × (isSeriesOf (slotOf us (sender h)) x ≡ true)) (TradesIn (area (dayBlock book)))
+      (λ x q. q .0 (series-of-series _ x (q .1))) (keep (isSeriesOf (slotOf us (sender h))) us)
+      (all-both (λ x. isSeries x ≡ true → TradesIn (area (dayBlock book)) x) (λ x. isSeriesOf (slotOf us (sender h)) x ≡ true) (keep (isSeriesOf (slotOf us (sender h))) us)
+      (all-keep (λ x. isSeries x ≡ true → TradesIn (area (dayBlock book)) x) (isSeriesOf (slotOf us (sender h))) us (used-trades book (a .was)))
+      (all-kept (isSeriesOf (slotOf us (sender h))) us))
 
   kept-now : (e p : Bytes) → isHeld (held us e p) ≡ true → isHeld (held (used (accepted book message)) e p) ≡ true
   kept-now e p t = ap isHeld (held-now e p) ∙ split (same (sender h) e)
-      (λ i. rw i (sym (is-held-found (pairIs p) series) ∙ present p (is-held-found (pairIs p) own ∙ ap isHeld (own-held us (sender h) p) ∙ rw (same-yes _ _ i) t)))
+      (λ i. rw i (sym (is-held-found (tradeIs (some p)) series) ∙ present p (is-held-found (tradeIs (some p)) own ∙ ap isHeld (own-held us (sender h) p) ∙ rw (same-yes _ _ i) t)))
       (λ i. rw i t)
 
   -- the sender's own
-  own-value : (p : Bytes) (k : ℕ) → k < 100 → closed (dayBlock book) (k + 1) ≡ true → (o : Option Block) → find (pairIs p) series ≡ o → heldAt
+  own-value : (p : Bytes) (k : ℕ) → k < 100 → closed (dayBlock book) (k + 1) ≡ true → (o : Option Block) → find (tradeIs (some p)) series ≡ o → heldAt
       (Option·map quantities o) k ≡ heldAt (held us (sender h) p) k
-  unfolding heldAt
+  unfolding heldAt viewFound
   own-value p k l c none e =
-      split (has (pairIs p) own)
-      (λ q. let z : some (has-yes (pairIs p) series (present p q) .0) ≡ none = sym (has-yes (pairIs p) series (present p q) .1)
+      split (has (tradeIs (some p)) own)
+      (λ q. let z : some (has-yes (tradeIs (some p)) series (present p q) .0) ≡ none = sym (has-yes (tradeIs (some p)) series (present p q) .1)
       ∙ e in let w : true ≡ false = cc in absurd (true≢false w))
-      (λ q. sym (ap (λ o. entry (Option·getD o []) k) (sym (own-held us (sender h) p) ∙ not-found (pairIs p) own (has-no-find (pairIs p) own q))))
+      (λ q. sym (ap (λ o. entry (Option·getD o []) k) (sym (own-held us (sender h) p) ∙ not-found (tradeIs (some p)) own (has-no-find (tradeIs (some p)) own q))))
   own-value p k l c (some y) e =
-      let i : pair y ≡ p = pair-is-yes p y (find-passes _ series y e) in
+      let d : TradesIn (area (dayBlock book)) y = all-find (TradesIn (area (dayBlock book))) (tradeIs (some p)) series y (sent-trades book message a) e in
       entry-quantities y k l
-      ∙ all-find (Line (dayBlock book) own h) (pairIs p) series y (a .each) e .unchanged k l c
+      ∙ all-find (Line (dayBlock book) own h) (tradeIs (some p)) series y (a .each) e .unchanged k l c
       ∙ stored-value own y k l
-      ∙ ap (λ z. heldAt (viewFound quantities (pairIs z) own) k) i
+      ∙ ap (λ o. heldAt (Option·map quantities o) k) (sym (find-agree (tradeIs (some p)) (keyIs (key y)) own (all-imply (TradesIn (area (dayBlock book)))
+      (λ z. tradeIs (some p) z ≡ keyIs (key y) z) (trade-as-key (area (dayBlock book)) (some p) y d (find-passes _ series y e)) own own-trades)))
       ∙ ap (λ o. heldAt o k) (own-held us (sender h) p)
 
   values-now : (e p : Bytes) (k : ℕ) → k < 100 → closed (dayBlock book) (k + 1) ≡ true → heldAt (held (used (accepted book message)) e p) k ≡ heldAt (held us e p) k
   unfolding viewFound
   values-now e p k l c = ap (λ o. heldAt o k) (held-now e p) ∙ split (same (sender h) e)
-      (λ t. rw (t, ← (same-yes (sender h) e t)) (own-value p k l c (find (pairIs p) series) refl))
+      (λ t. rw (t, ← (same-yes (sender h) e t)) (own-value p k l c (find (tradeIs (some p)) series) refl))
       (λ t. rw t)
 
   later-accepted : Later book (accepted book message)
@@ -140,6 +154,21 @@ module _ (book message : Bytes) (a : Accepts book message) where
     kept = kept-now;
     values = values-now;
   }
+
+-- ---- a right entered: no trade stands in its slot
+
+later-entered : (book block : Bytes) → Enters book block → Later book (entered book block)
+later-entered book block e = record {
+  n = ap nOf (day-block-entered book block e);
+  leads = ap lead (day-block-entered book block e);
+  rules = ap ruleOf (day-block-entered book block e);
+  clocks = rw (day-block-entered book block e) (le-refl (clockPlus10080 (dayBlock book)));
+  kept = λ t p h. ap isHeld (stays t p) ∙ h;
+  values = λ t p k l h. ap (λ o. heldAt o k) (stays t p);
+}
+  where
+    stays : (t p : Bytes) → held (used (entered book block)) t p ≡ held (used book) t p
+    stays t p = ap (λ us. held us t p) (used-entered book block e) ∙ held-viewed _ t p ∙ held-beside (used book) block (e .kind) quantities t (tradeIs (some p)) ∙ sym (held-viewed (used book) t p)
 
 -- ---- a conversion: it keeps the day block and every quantity
 
@@ -165,6 +194,11 @@ later-submission book message = split (is (numberOf (verdict book message)) 0)
     (λ t. rw (submission-accepted book message (is-yes _ _ t)) (later-accepted book message (accepts book message (is-yes _ _ t))))
     (λ t. rw (submission-refused book message (is-no _ _ t)) (later-refl book))
 
+pub later-entering : (book block : Bytes) → Later book (entered book block)
+later-entering book block = split (is (enterNumber book block) 0)
+    (λ t. later-entered book block (enters book block (is-yes _ _ t)))
+    (λ t. rw (entering-refused book block (is-no _ _ t)) (later-refl book))
+
 pub later-conversion : (book : Bytes) → Later book (converted book)
 later-conversion book = split (is (conversionNumber book) 0)
     (λ t. later-converted book (converts book (is-yes _ _ t)))
@@ -177,6 +211,7 @@ unfolding step
 later-step k (opening o) s = rw (opening-refused (k .book) o s) (later-refl (k .book))
 later-step k (clockMove minute) s = later-clock (k .book) minute
 later-step k (submission m) s = later-submission (k .book) m
+later-step k (entering block) s = later-entering (k .book) block
 later-step k conversion s = later-conversion (k .book)
 later-step k reading s = later-refl (k .book)
 

@@ -51,9 +51,9 @@ module _ (book : Bytes) (s : Sound book) (e : Bytes) where
   heads-kept = by-stored (λ o m. Option·map headContent o ≡ Option·map (λ z. headContent (headOf z)) m) (λ t. refl)
       (λ b f. ap (λ z. some (headContent z)) (sym (head-of-kept us (used-lengths book) b (whole b f))))
 
-  pub plain-nets-kept : NetsTrue (used book) → Option·map nets (find (isSenderBlockOf e) (used book)) ≡ plainNets (keptMessages (used book)) e
+  pub plain-nets-kept : (ours : Bytes) → NetsTrue ours (used book) → Option·map nets (find (isSenderBlockOf e) (used book)) ≡ plainNets ours (keptMessages (used book)) e
   unfolding plainNets NetsTrue
-  plain-nets-kept v = by-stored (λ o m. Option·map nets o ≡ Option·map (λ z. netsOf e (seriesOf z)) m) (λ t. refl)
+  plain-nets-kept ours v = by-stored (λ o m. Option·map nets o ≡ Option·map (λ z. netsOf ours e (seriesOf z)) m) (λ t. refl)
       (λ b f. ap some
-      (all-find (λ x. isSender x ≡ true → nets x ≡ netsOf (sender x) (ownSeries us (sender x))) _ us b v f (sender-block-sender e b (passes b f))
-      ∙ ap (λ z. netsOf z (ownSeries us z)) (sender-block-eic e b (passes b f)) ∙ ap (netsOf e) (sym (series-is b f))))
+      (all-find (λ x. isSender x ≡ true → nets x ≡ netsOf ours (sender x) (ownSeries us (sender x))) _ us b v f (sender-block-sender e b (passes b f))
+      ∙ ap (λ z. netsOf ours z (ownSeries us z)) (sender-block-eic e b (passes b f)) ∙ ap (netsOf ours e) (sym (series-is b f))))

@@ -11,39 +11,39 @@ use Rattle.laws.specs.Bytes.{part, value, little, number}
 use Rattle.laws.specs.Bytes.Laws.{part-all, part-append-left, part-append-right, little-length, value-little}
 use Rattle.paper.specs.Layout.{Bytes, Block, inParty, outParty, entry, quantity, withNets, net}
 use Rattle.paper.specs.Ranges.{netAllowed, netsAllowed}
-use Rattle.paper.specs.Nets.{bought, sold, netOf, netsTo, netsOf}
+use Rattle.paper.specs.Nets.{comesIn, goesOut, bought, sold, netOf, netsTo, netsOf}
 use Rattle.facts.specs.Layout.{nets-with-nets, entry-nets, zeros-above, net-is-quantity}
 use Rattle.facts.specs.Nets.{bought-most, sold-most, nets-to-length, nets-of-length}
 
-net-word : (e : Bytes) (l : List Block) (k : ℕ) → value (little 4 (netOf e l k)) ≡ netOf e l k
+net-word : (ours e : Bytes) (l : List Block) (k : ℕ) → value (little 4 (netOf ours e l k)) ≡ netOf ours e l k
 unfolding netOf
-net-word e l k = value-little 4 _ (omega arith)
+net-word ours e l k = value-little 4 _ (omega arith)
 
-nets-to-entry : (e : Bytes) (l : List Block) (m k : ℕ) → k < m → number 4 (4 * k) (netsTo e l m) ≡ netOf e l k
+nets-to-entry : (ours e : Bytes) (l : List Block) (m k : ℕ) → k < m → number 4 (4 * k) (netsTo ours e l m) ≡ netOf ours e l k
 unfolding netsTo number
-nets-to-entry e l zero k h = absurd (omega arith)
-nets-to-entry e l (suc m) k h = elim (ℕ-discrete k m) [ yes i ↦ last i | no i ↦ front (omega arith) (nets-to-entry e l m k (omega arith)) ]
+nets-to-entry ours e l zero k h = absurd (omega arith)
+nets-to-entry ours e l (suc m) k h = elim (ℕ-discrete k m) [ yes i ↦ last i | no i ↦ front (omega arith) (nets-to-entry ours e l m k (omega arith)) ]
   where
-    last : k ≡ m → value (part (4 * k) 4 (netsTo e l m ++ little 4 (netOf e l m))) ≡ netOf e l k
+    last : k ≡ m → value (part (4 * k) 4 (netsTo ours e l m ++ little 4 (netOf ours e l m))) ≡ netOf ours e l k
     last i =
-        let o : 4 * k ≡ length (netsTo e l m) + 0 = omega (arith, nets-to-length e l m) in
-        ap (λ z. value (part z 4 (netsTo e l m ++ little 4 (netOf e l m)))) o
-        ∙ ap value (part-append-right 0 4 (netsTo e l m) (little 4 (netOf e l m)) ∙ part-all 4 (little 4 (netOf e l m))
-        (omega (arith, little-length 4 (netOf e l m))))
-        ∙ net-word e l m ∙ ap (netOf e l) (sym i)
+        let o : 4 * k ≡ length (netsTo ours e l m) + 0 = omega (arith, nets-to-length ours e l m) in
+        ap (λ z. value (part z 4 (netsTo ours e l m ++ little 4 (netOf ours e l m)))) o
+        ∙ ap value (part-append-right 0 4 (netsTo ours e l m) (little 4 (netOf ours e l m)) ∙ part-all 4 (little 4 (netOf ours e l m))
+        (omega (arith, little-length 4 (netOf ours e l m))))
+        ∙ net-word ours e l m ∙ ap (netOf ours e l) (sym i)
 
-    front : k < m → value (part (4 * k) 4 (netsTo e l m)) ≡ netOf e l k → value (part (4 * k) 4 (netsTo e l m ++ little 4 (netOf e l m))) ≡ netOf e l k
-    front t q = ap value (part-append-left (4 * k) 4 (netsTo e l m) (little 4 (netOf e l m)) (omega (arith, nets-to-length e l m))) ∙ q
+    front : k < m → value (part (4 * k) 4 (netsTo ours e l m)) ≡ netOf ours e l k → value (part (4 * k) 4 (netsTo ours e l m ++ little 4 (netOf ours e l m))) ≡ netOf ours e l k
+    front t q = ap value (part-append-left (4 * k) 4 (netsTo ours e l m) (little 4 (netOf ours e l m)) (omega (arith, nets-to-length ours e l m))) ∙ q
 
-pub nets-entry : (e : Bytes) (l : List Block) (k : ℕ) → k < 100 → entry (netsOf e l) k ≡ netOf e l k
+pub nets-entry : (ours e : Bytes) (l : List Block) (k : ℕ) → k < 100 → entry (netsOf ours e l) k ≡ netOf ours e l k
 unfolding netsOf entry
-nets-entry e l k h = nets-to-entry e l 100 k h
+nets-entry ours e l k h = nets-to-entry ours e l 100 k h
 
 -- the word in the block that they are written over
-net-with-nets : (e : Bytes) (l : List Block) (s : Block) → length s ≡ 512 → (k : ℕ) → k < 100 → net (withNets (netsOf e l) s) k ≡ netOf e l k
-net-with-nets e l s w k h =
-    net-is-quantity (withNets (netsOf e l) s) k ∙ sym (entry-nets (withNets (netsOf e l) s) k h)
-    ∙ ap (λ v. entry v k) (nets-with-nets (netsOf e l) s (nets-of-length e l) w) ∙ nets-entry e l k h
+net-with-nets : (ours e : Bytes) (l : List Block) (s : Block) → length s ≡ 512 → (k : ℕ) → k < 100 → net (withNets (netsOf ours e l) s) k ≡ netOf ours e l k
+net-with-nets ours e l s w k h =
+    net-is-quantity (withNets (netsOf ours e l) s) k ∙ sym (entry-nets (withNets (netsOf ours e l) s) k h)
+    ∙ ap (λ v. entry v k) (nets-with-nets (netsOf ours e l) s (nets-of-length ours e l) w) ∙ nets-entry ours e l k h
 
 -- ---- their range
 
@@ -62,19 +62,19 @@ shares-none : (p : Block → Bool) (k : ℕ) (l : List Block) → All (λ x. qua
 shares-none p k l h = total-none (λ x. cond (p x) (quantity x k) 0) l (all-imply (λ x. quantity x k ≡ 0) (λ x. cond (p x) (quantity x k) 0 ≡ 0)
     (λ x q. share-none (p x) _ q) l h)
 
-net-range : (e : Bytes) (l : List Block) (k : ℕ) → length l ≤ 200 → All (λ x. quantity x k ≤ 9999999) l → netAllowed (netOf e l k) ≡ true
+net-range : (ours e : Bytes) (l : List Block) (k : ℕ) → length l ≤ 200 → All (λ x. quantity x k ≤ 9999999) l → netAllowed (netOf ours e l k) ≡ true
 unfolding netOf
-net-range e l k n h = signed _ _ (bought-most e l k n h) (sold-most e l k n h)
+net-range ours e l k n h = signed _ _ (bought-most ours e l k n h) (sold-most ours e l k n h)
 
-net-none : (e : Bytes) (l : List Block) (k : ℕ) → All (λ x. quantity x k ≡ 0) l → netOf e l k ≡ 0
+net-none : (ours e : Bytes) (l : List Block) (k : ℕ) → All (λ x. quantity x k ≡ 0) l → netOf ours e l k ≡ 0
 unfolding netOf bought sold
-net-none e l k h = rw (shares-none (λ x. same (inParty x) e) k l h, shares-none (λ x. same (outParty x) e) k l h)
+net-none ours e l k h = rw (shares-none (comesIn ours e) k l h, shares-none (goesOut ours e) k l h)
 
-pub nets-allowed : (e : Bytes) (l : List Block) (s : Block) (n : ℕ) → n ≤ 100 → length s ≡ 512 → length l ≤ 200
+pub nets-allowed : (ours e : Bytes) (l : List Block) (s : Block) (n : ℕ) → n ≤ 100 → length s ≡ 512 → length l ≤ 200
     → ((k : ℕ) → k < n → All (λ x. quantity x k ≤ 9999999) l) → ((k : ℕ) → k < 100 → n ≤ k → All (λ x. quantity x k ≡ 0) l)
-    → netsAllowed n (withNets (netsOf e l) s) ≡ true
+    → netsAllowed n (withNets (netsOf ours e l) s) ≡ true
 unfolding netsAllowed
-nets-allowed e l s n h w f low high =
-    and-both _ _ (below-each (λ k. netAllowed (net (withNets (netsOf e l) s) k)) n (λ k t. rw (net-with-nets e l s w k (omega arith))
-    (net-range e l k f (low k t))))
-    (zeros-above n (withNets (netsOf e l) s) h (λ k t u. sym (net-is-quantity _ k) ∙ net-with-nets e l s w k t ∙ net-none e l k (high k t u)))
+nets-allowed ours e l s n h w f low high =
+    and-both _ _ (below-each (λ k. netAllowed (net (withNets (netsOf ours e l) s) k)) n (λ k t. rw (net-with-nets ours e l s w k (omega arith))
+    (net-range ours e l k f (low k t))))
+    (zeros-above n (withNets (netsOf ours e l) s) h (λ k t u. sym (net-is-quantity _ k) ∙ net-with-nets ours e l s w k t ∙ net-none ours e l k (high k t u)))

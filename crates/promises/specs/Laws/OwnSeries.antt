@@ -1,5 +1,5 @@
 -- What soundness says of one sender's series: they are as many as its sender block counts, so at most 200, and none where it has no sender block; their quantities are in
--- range; and no id and no pair stands twice.
+-- range; and no id and no key stands twice.
 use Rattle.laws.specs.Base.{_≡_, sym, _∙_, Bool, true, false, List, [], ℕ, _≤_, _<_, arith, length}
 use Rattle.laws.specs.Tests.{less}
 use Rattle.laws.specs.Tests.Laws.{split, and-left, and-right, is-yes, less-yes, less-no, upto-yes}
@@ -17,7 +17,7 @@ use Rattle.facts.specs.Book.{sender-block-sender, sender-block-eic, series-of-s
 use Rattle.facts.specs.Quantities.{quantity-within, quantity-above}
 use Rattle.facts.specs.Senders.{Owner, Owned, owned, slot-of-none, slot-of-positive}
 use Rattle.facts.specs.Sound.{Sound, used-sender, used-series}
-use Rattle.facts.specs.Verdict.{sameIdOrPair}
+use Rattle.facts.specs.Verdict.{sameIdOrKey}
 use Rattle.promises.specs.Laws.SoundApart.{same-series-yes}
 use Rattle.promises.specs.Laws.SoundSeries.{fields-of}
 use Rattle.promises.specs.Laws.ById.{apart-less}
@@ -73,8 +73,8 @@ module _ (book : Bytes) (s : Sound book) (e : Bytes) where
 
   -- ---- no two alike
 
-  pub own-distinct : apart sameIdOrPair (ownSeries (used book) e) ≡ true
+  pub own-distinct : apart sameIdOrKey (ownSeries (used book) e) ≡ true
   unfolding ownSeries
-  own-distinct = apart-less sameIdOrPair sameSeries (λ x. mine x ≡ true)
+  own-distinct = apart-less sameIdOrKey sameSeries (λ x. mine x ≡ true)
       (λ x y a b t. same-series-yes x y (series-of-series _ x a) (series-of-series _ y b) (series-of-slot _ x a ∙ sym (series-of-slot _ y b)) t)
       (keep mine us) (all-kept mine us) (apart-keep sameSeries mine us (s .series))

@@ -1,7 +1,7 @@
 -- Short names for the parts of an acceptance of a message into a book, and of a conversion, so that a statement about them stays one line.
 use Rattle.laws.specs.Base.{List, ℕ}
 use Rattle.laws.specs.Lists.{keep}
-use Rattle.paper.specs.Layout.{Bytes, Block, nOf, sender}
+use Rattle.paper.specs.Layout.{Bytes, Block, nOf, area, sender}
 use Rattle.paper.specs.Book.{dayBlock, used, ownSeries}
 use Rattle.paper.specs.Message.{headOf, seriesOf}
 use Rattle.paper.specs.Rules.{isNew}
@@ -22,23 +22,24 @@ newOf book message = keep (isNew (ownSeries (used book) (sender (headOf message)
 
 -- a stored block, renewed
 abbrev pub renewedOf : Bytes → Bytes → Block → Block
-renewedOf book message = renewed (slotFor (used book) (sender (headOf message))) (headOf message) (seriesOf message)
+renewedOf book message = renewed (area (dayBlock book)) (slotFor (used book) (sender (headOf message))) (headOf message) (seriesOf message)
 
 -- the used slots, marks apart
 abbrev pub placedOf : Bytes → Bytes → List Block
-placedOf book message = placed (used book) (headOf message) (seriesOf message)
+placedOf book message = placed (area (dayBlock book)) (used book) (headOf message) (seriesOf message)
 
 -- a block with its mark put right
 abbrev pub remarkedOf : Bytes → Bytes → Block → Block
-remarkedOf book message = remarked (nOf (dayBlock book)) (slotFor (used book) (sender (headOf message))) (placed (used book) (headOf message) (seriesOf message))
+remarkedOf book message = remarked (nOf (dayBlock book)) (slotFor (used book) (sender (headOf message))) (placed (area (dayBlock book)) (used book) (headOf message) (seriesOf message))
 
 -- the used slots after it
 abbrev pub afterOf : Bytes → Bytes → List Block
-afterOf book message = usedAfter (nOf (dayBlock book)) (used book) (headOf message) (seriesOf message)
+afterOf book message = usedAfter (nOf (dayBlock book)) (area (dayBlock book)) (used book) (headOf message) (seriesOf message)
 
--- all of them, to be opened by name: d is the day block, us the used slots, h and series the message's first block and series
+-- all of them, to be opened by name: d is the day block, ours its area, us the used slots, h and series the message's first block and series
 pub record Acceptance : Type 0 where
   pub d : Block
+  pub ours : Bytes
   pub us : List Block
   pub h : Block
   pub series : List Block
@@ -52,6 +53,7 @@ pub record Acceptance : Type 0 where
 abbrev pub parts : Bytes → Bytes → Acceptance
 parts book message = record {
   d = dayBlock book;
+  ours = area (dayBlock book);
   us = used book;
   h = headOf message;
   series = seriesOf message;
@@ -66,7 +68,7 @@ parts book message = record {
 -- ---- a conversion: a used block, and the used slots after it
 
 abbrev pub againOf : Bytes → Block → Block
-againOf book = convertedBlock (nOf (dayBlock book)) (used book)
+againOf book = convertedBlock (nOf (dayBlock book)) (area (dayBlock book)) (used book)
 
 abbrev pub usedAgainOf : Bytes → List Block
-usedAgainOf book = usedConverted (nOf (dayBlock book)) (used book)
+usedAgainOf book = usedConverted (nOf (dayBlock book)) (area (dayBlock book)) (used book)

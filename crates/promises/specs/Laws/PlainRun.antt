@@ -6,7 +6,7 @@ use Rattle.laws.specs.Lists.{same, every}
 use Rattle.laws.specs.Lists.Same.{same-yes, same-equal}
 use Rattle.laws.specs.Lists.Each.{all-imply, every-all, all-every}
 use Rattle.paper.specs.declared.PlainRunAnswer.{PlainRunAnswer}
-use Rattle.paper.specs.Layout.{Bytes, Block, nOf, sender, nets, mark}
+use Rattle.paper.specs.Layout.{Bytes, Block, nOf, area, sender, nets, mark}
 use Rattle.paper.specs.Book.{dayBlock, used, isSender, isSeries, ownSeries}
 use Rattle.paper.specs.Sound.{sound}
 use Rattle.paper.specs.Marks.{markIn}
@@ -34,27 +34,27 @@ module _ (n : ℕ) (us : List Block) where
   marks-every e = all-imply (λ x. (neg (isSeries x) or same (mark x) (markIn n us x)) ≡ true) (λ x. isSeries x ≡ true → mark x ≡ markIn n us x)
       (λ x. of-kind (isSeries x) (mark x) (markIn n us x)) us (every-all _ us e)
 
-abbrev Nets : List Block → Block → Bytes
-Nets us x = netsOf (sender x) (ownSeries us (sender x))
+abbrev Nets : Bytes → List Block → Block → Bytes
+Nets ours us x = netsOf ours (sender x) (ownSeries us (sender x))
 
-every-nets : (us : List Block) → NetsTrue us → every (netsTrue us) us ≡ true
+every-nets : (ours : Bytes) (us : List Block) → NetsTrue ours us → every (netsTrue ours us) us ≡ true
 unfolding NetsTrue netsTrue
-every-nets us v = all-every _ us (all-imply (λ x. isSender x ≡ true → nets x ≡ Nets us x) (λ x. (neg (isSender x) or same (nets x) (Nets us x)) ≡ true)
-    (λ x. if-kind (isSender x) (nets x) (Nets us x)) us v)
+every-nets ours us v = all-every _ us (all-imply (λ x. isSender x ≡ true → nets x ≡ Nets ours us x) (λ x. (neg (isSender x) or same (nets x) (Nets ours us x)) ≡ true)
+    (λ x. if-kind (isSender x) (nets x) (Nets ours us x)) us v)
 
-nets-every : (us : List Block) → every (netsTrue us) us ≡ true → NetsTrue us
+nets-every : (ours : Bytes) (us : List Block) → every (netsTrue ours us) us ≡ true → NetsTrue ours us
 unfolding NetsTrue netsTrue
-nets-every us e = all-imply (λ x. (neg (isSender x) or same (nets x) (Nets us x)) ≡ true) (λ x. isSender x ≡ true → nets x ≡ Nets us x)
-    (λ x. of-kind (isSender x) (nets x) (Nets us x)) us (every-all _ us e)
+nets-every ours us e = all-imply (λ x. (neg (isSender x) or same (nets x) (Nets ours us x)) ≡ true) (λ x. isSender x ≡ true → nets x ≡ Nets ours us x)
+    (λ x. of-kind (isSender x) (nets x) (Nets ours us x)) us (every-all _ us e)
 
-pub true-yes : (book : Bytes) → Sound book → MarksTrue (nOf (dayBlock book)) (used book) → NetsTrue (used book) → plainRun book ≡ record { number = 0; holds = true }
+pub true-yes : (book : Bytes) → Sound book → MarksTrue (nOf (dayBlock book)) (used book) → NetsTrue (area (dayBlock book)) (used book) → plainRun book ≡ record { number = 0; holds = true }
 unfolding plainRun
-true-yes book s m v = rw (is-sound book s, and-both _ _ (every-mark (nOf (dayBlock book)) (used book) m) (every-nets (used book) v))
+true-yes book s m v = rw (is-sound book s, and-both _ _ (every-mark (nOf (dayBlock book)) (used book) m) (every-nets (area (dayBlock book)) (used book) v))
 
-pub yes-true : (book : Bytes) → plainRun book ≡ record { number = 0; holds = true } → MarksTrue (nOf (dayBlock book)) (used book) × NetsTrue (used book)
+pub yes-true : (book : Bytes) → plainRun book ≡ record { number = 0; holds = true } → MarksTrue (nOf (dayBlock book)) (used book) × NetsTrue (area (dayBlock book)) (used book)
 unfolding plainRun
 yes-true book e =
-    let h : (every (markTrue (nOf (dayBlock book)) (used book)) (used book) and every (netsTrue (used book)) (used book)) ≡ true = split (sound book)
+    let h : (every (markTrue (nOf (dayBlock book)) (used book)) (used book) and every (netsTrue (area (dayBlock book)) (used book)) (used book)) ≡ true = split (sound book)
     (λ t. ap (λ (a : PlainRunAnswer). a .holds) (rw t at e))
     (λ t. let z : false ≡ true = ap (λ (a : PlainRunAnswer). a .holds) (rw t at e) in let w : true ≡ false = cc in absurd (true≢false w)) in
-    (marks-every (nOf (dayBlock book)) (used book) (and-left _ _ h), nets-every (used book) (and-right _ _ h))
+    (marks-every (nOf (dayBlock book)) (used book) (and-left _ _ h), nets-every (area (dayBlock book)) (used book) (and-right _ _ h))

@@ -5,8 +5,8 @@ use Rattle.laws.specs.Tests.Laws.{and-left}
 use Rattle.laws.specs.Lists.{find, place, nth, All}
 use Rattle.laws.specs.Lists.Each.{all-keep}
 use Rattle.laws.specs.Lists.Search.{find-passes, find-keep-and, nth-place}
-use Rattle.paper.specs.Layout.{Bytes, Block, nets, net, sendersSlot, pair, mark, partner, entry}
-use Rattle.paper.specs.Book.{dayBlock, used, isSeries, idIs, pairIs, isSenderBlockOf, slotOf, isSeriesOf, isSeriesOfPair, ownSeries}
+use Rattle.paper.specs.Layout.{Bytes, Block, area, nets, net, sendersSlot, pair, key, mark, partner, entry}
+use Rattle.paper.specs.Book.{dayBlock, used, isSeries, idIs, keyIs, trade, isSenderBlockOf, slotOf, isSeriesOf, isTradeOf, ownSeries}
 use Rattle.paper.specs.Message.{seriesOf}
 use Rattle.paper.specs.Nets.{bought, sold, netOf, netsOf}
 use Rattle.paper.specs.Finals.{finalIn, final}
@@ -17,6 +17,7 @@ use Rattle.facts.specs.Book.{series-of-series, series-of-slot, used-lengths}
 use Rattle.facts.specs.Sound.{is-sound}
 use Rattle.facts.specs.Verdict.{series-lengths}
 use Rattle.facts.specs.Nets.{SignedSum, net-signed}
+use Rattle.facts.specs.Keys.{key-pair, key-trade}
 use Rattle.facts.specs.Pairs.{viewFound}
 use Rattle.promises.specs.Laws.Invariant.{Within, Invariant, held-plain}
 use Rattle.promises.specs.Laws.Nets.{nets-entry}
@@ -54,8 +55,8 @@ module _ (book : Bytes) (ms : List Bytes) (v : Invariant book ms) where
   sent-row : (e : Bytes) → Row (seriesOfLatest (latest e ms))
   sent-row e = record { whole = latest-lengths (latest e ms); distinct = v .distinct e }
 
-  by-pair : (e p : Bytes) → viewFound content (pairIs p) (ownSeries us e) ≡ viewFound content (pairIs p) (seriesOfLatest (latest e ms))
-  by-pair e p = own-viewed content us e p ∙ v .contents e p
+  by-key : (e k : Bytes) → viewFound content (keyIs k) (ownSeries us e) ≡ viewFound content (keyIs k) (seriesOfLatest (latest e ms))
+  by-key e k = own-viewed content us e (keyIs k) ∙ v .contents e k
 
   own-by-id : (e id : Bytes) → find (idIs id) (ownSeries us e) ≡ storedAs us e id
   unfolding storedAs isStoredAs ownSeries
@@ -63,7 +64,7 @@ module _ (book : Bytes) (ms : List Bytes) (v : Invariant book ms) where
 
   pub stored-plain : (e id : Bytes) → Option·map content (storedAs (used book) e id) ≡ Option·map content (plainStoredAs ms e id)
   unfolding plainStoredAs viewFound
-  stored-plain e id = ap (Option·map content) (sym (own-by-id e id)) ∙ by-id (ownSeries us e) (seriesOfLatest (latest e ms)) (own-row e) (sent-row e) (by-pair e) id
+  stored-plain e id = ap (Option·map content) (sym (own-by-id e id)) ∙ by-id (ownSeries us e) (seriesOfLatest (latest e ms)) (own-row e) (sent-row e) (by-key e) id
 
   pub accepted-block-plain : (e id : Bytes) → content (acceptedBlock book e id) ≡ content (Option·getD (plainStoredAs ms e id) [])
   unfolding acceptedBlock
@@ -104,12 +105,12 @@ module _ (book : Bytes) (ms : List Bytes) (v : Invariant book ms) where
       whose : slotOf us e ≡ sendersSlot x
       whose = sym (series-of-slot _ x own)
 
-      sent : (y : Block) × (find (idIs id) (seriesOfLatest (latest e ms)) ≡ some y) × (content x ≡ content y) × (pair x ≡ pair y)
-      sent = other-has (ownSeries us e) (seriesOfLatest (latest e ms)) (own-row e) (sent-row e) (by-pair e) id x (own-by-id e id ∙ f)
+      sent : (y : Block) × (find (idIs id) (seriesOfLatest (latest e ms)) ≡ some y) × (content x ≡ content y) × (key x ≡ key y)
+      sent = other-has (ownSeries us e) (seriesOfLatest (latest e ms)) (own-row e) (sent-row e) (by-key e) id x (own-by-id e id ∙ f)
 
       mark-due : markFound (some x) ≡ plainMarkAnswer ms e id (partner x)
       unfolding plainMarkAnswer plainStoredAs plainMarkFound
-      mark-due = mark-found-told x ∙ ap markTold (mark-plain book ms v slot x there series e whose) ∙ rw (sent .1, sent .3)
+      mark-due = mark-found-told x ∙ ap markTold (mark-plain book ms v slot x there series e whose) ∙ rw (sent .1, key-trade x (sent .0) (sent .3))
 
     mark-by : (o : Option Block) → storedAs us e id ≡ o → markFound o ≡ plainMarkAnswer ms e id ((markFound o) .partner .0)
     unfolding markFound plainMarkAnswer plainMarkFound
@@ -119,30 +120,30 @@ module _ (book : Bytes) (ms : List Bytes) (v : Invariant book ms) where
     pub mark-reading : markAnswer book e id ≡ plainMarkAnswer ms e id ((markAnswer book e id) .partner .0)
     mark-reading = rw answered (mark-by (storedAs us e id) refl)
 
-    -- the slot in it holds the series of the other party with the pair; where there is none it is 0, and no slot has that number
+    -- the slot in it holds the trade of the other party with the pair; where there is none it is 0, and no slot has that number
     pub partner-reading : (y : Block) → plainStoredAs ms e id ≡ some y
-        → nth (used book) ((markAnswer book e id) .partner .0) ≡ find (isSeriesOfPair (slotOf (used book) (otherParty e (pair y))) (pair y)) (used book)
+        → nth (used book) ((markAnswer book e id) .partner .0) ≡ find (isTradeOf (slotOf (used book) (otherParty e (pair y))) (trade y)) (used book)
     unfolding plainStoredAs markFound
     partner-reading y f =
-        let q = other-has (seriesOfLatest (latest e ms)) (ownSeries us e) (sent-row e) (own-row e) (λ p. sym (by-pair e p)) id y f in
+        let q = other-has (seriesOfLatest (latest e ms)) (ownSeries us e) (sent-row e) (own-row e) (λ p. sym (by-key e p)) id y f in
         let x : Block = q .0 in
         let g : storedAs us e id ≡ some x = sym (own-by-id e id) ∙ q .1 in
-        rw (answered, g, q .3) (partner-found book ms v (slot x g) x (there x g) (series x g) e (whose x g))
+        rw (answered, g, key-pair y x (q .3), key-trade y x (q .3)) (partner-found book ms v (slot x g) x (there x g) (series x g) e (whose x g))
 
   -- ---- nets
 
   pub net-reading : (e : Bytes) (s : Block) → find (isSenderBlockOf e) (used book) ≡ some s → (k : ℕ) → k < 100
-      → SignedSum (net s k) (bought e (seriesOfLatest (latest e ms)) k) (sold e (seriesOfLatest (latest e ms)) k)
+      → SignedSum (net s k) (bought (area (dayBlock book)) e (seriesOfLatest (latest e ms)) k) (sold (area (dayBlock book)) e (seriesOfLatest (latest e ms)) k)
   unfolding plainNets seriesOfLatest
   net-reading e s f k h = by (latest e ms) (v .within e) (sym (ap (Option·map nets) f) ∙ v .plain e)
     where
-      by : (o : Option Bytes) → Within (seriesOfLatest o) → some (nets s) ≡ Option·map (λ m. netsOf e (seriesOf m)) o
-          → SignedSum (net s k) (bought e (seriesOfLatest o) k) (sold e (seriesOfLatest o) k)
+      by : (o : Option Bytes) → Within (seriesOfLatest o) → some (nets s) ≡ Option·map (λ m. netsOf (area (dayBlock book)) e (seriesOf m)) o
+          → SignedSum (net s k) (bought (area (dayBlock book)) e (seriesOfLatest o) k) (sold (area (dayBlock book)) e (seriesOfLatest o) k)
       by none w q = let z : true ≡ false = cc in absurd (true≢false z)
       by (some m) w q =
-          let i : nets s ≡ netsOf e (seriesOf m) = cc in
-          let j : net s k ≡ netOf e (seriesOf m) k = net-is-quantity s k ∙ sym (entry-nets s k h) ∙ ap (λ l. entry l k) i ∙ nets-entry e (seriesOf m) k h in
-          rw j (net-signed e (seriesOf m) k (w .few) (w .small k h))
+          let i : nets s ≡ netsOf (area (dayBlock book)) e (seriesOf m) = cc in
+          let j : net s k ≡ netOf (area (dayBlock book)) e (seriesOf m) k = net-is-quantity s k ∙ sym (entry-nets s k h) ∙ ap (λ l. entry l k) i ∙ nets-entry (area (dayBlock book)) e (seriesOf m) k h in
+          rw j (net-signed (area (dayBlock book)) e (seriesOf m) k (w .few) (w .small k h))
 
   -- ---- finals
 

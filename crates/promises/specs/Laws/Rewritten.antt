@@ -8,8 +8,8 @@ use Rattle.laws.specs.Cut.{join}
 use Rattle.laws.specs.Cut.Laws.{join-length}
 use Rattle.paper.specs.Check.{checkRight}
 use Rattle.paper.specs.Layout.{Bytes, Block, blocks, nOf}
-use Rattle.paper.specs.Book.{dayBlock, slots, isFree, used, isSender, isSeries}
-use Rattle.paper.specs.Sound.{usedSound, sameSender, sameSeries, differingSound, differingAllowed}
+use Rattle.paper.specs.Book.{dayBlock, slots, isFree, used, isSender, isSeries, isRight}
+use Rattle.paper.specs.Sound.{usedSound, sameSender, sameSeries, sameRight, differingSound, differingAllowed}
 use Rattle.facts.specs.Book.{kind-used, day-block-append, blocks-book, slots-joined, used-joined, slots-rest}
 use Rattle.facts.specs.Sound.{Sound, day-block-length, used-kind}
 
@@ -31,8 +31,8 @@ used-right book s = all-until (λ x. checkRight x ≡ true) isFree (slots book) 
 
 -- ---- its used slots, and those behind them
 
-pub used-live : (book : Bytes) → Sound book → All (λ x. (isSender x or isSeries x) ≡ true) (used book)
-used-live book s = all-imply (λ x. usedSound (dayBlock book) (used book) x ≡ true) (λ x. (isSender x or isSeries x) ≡ true)
+pub used-live : (book : Bytes) → Sound book → All (λ x. (isSender x or isSeries x or isRight x) ≡ true) (used book)
+used-live book s = all-imply (λ x. usedSound (dayBlock book) (used book) x ≡ true) (λ x. (isSender x or isSeries x or isRight x) ≡ true)
     (λ x q. used-kind (dayBlock book) (used book) x q) (used book) (s .each)
 
 free-from : (book : Bytes) → Sound book → (k : ℕ) → length (used book) ≤ k → All (λ x. isFree x ≡ true) (drop k (slots book))
@@ -49,7 +49,7 @@ rewritten book l = dayBlock book ++ join l ++ drop (512 + 512 * length l) book
 pub record Rewrites (book : Bytes) (l : List Block) : Type 0 where
   pub was : Sound book
   pub whole : All (λ x. length x ≡ 512) l
-  pub live : All (λ x. (isSender x or isSeries x) ≡ true) l
+  pub live : All (λ x. (isSender x or isSeries x or isRight x) ≡ true) l
   pub most : length (used book) ≤ length l
   pub fits : length l < length book / 512
 
@@ -58,7 +58,7 @@ module _ (book : Bytes) (l : List Block) (r : Rewrites book l) where
   day-whole = day-block-length book (r .was)
 
   no-free : All (λ x. isFree x ≡ false) l
-  no-free = all-imply (λ x. (isSender x or isSeries x) ≡ true) (λ x. isFree x ≡ false) kind-used l (r .live)
+  no-free = all-imply (λ x. (isSender x or isSeries x or isRight x) ≡ true) (λ x. isFree x ≡ false) kind-used l (r .live)
 
   free-behind : All (λ x. isFree x ≡ true) (drop (length l) (slots book))
   free-behind = free-from book (r .was) (length l) (r .most)
@@ -100,8 +100,8 @@ module _ (book : Bytes) (l : List Block) (r : Rewrites book l) where
   free-rewritten = rw (used-rewritten, slots-rewritten, drop-at l (drop (length l) (slots book)) (length l) refl) free-behind
 
   pub sound-rewritten : All (λ x. checkRight x ≡ true) l → All (λ x. usedSound (dayBlock book) l x ≡ true) l → apart sameSender l ≡ true
-      → apart sameSeries l ≡ true → All (λ x. differingSound differingAllowed (nOf (dayBlock book)) x ≡ true) l → Sound (rewritten book l)
-  sound-rewritten checks each senders series counts = record {
+      → apart sameSeries l ≡ true → apart sameRight l ≡ true → All (λ x. differingSound differingAllowed (nOf (dayBlock book)) x ≡ true) l → Sound (rewritten book l)
+  sound-rewritten checks each senders series rights counts = record {
     whole = rw rewritten-length (r .was .whole);
     least = rw rewritten-length (r .was .least);
     most = rw rewritten-length (r .was .most);
@@ -111,5 +111,6 @@ module _ (book : Bytes) (l : List Block) (r : Rewrites book l) where
     each = rw (used-rewritten, day-block-rewritten) each;
     senders = rw used-rewritten senders;
     series = rw used-rewritten series;
+    rights = rw used-rewritten rights;
     counts = rw (used-rewritten, day-block-rewritten) counts;
   }

@@ -8,21 +8,22 @@ use Rattle.laws.specs.Lists.Each.{all-imply, all-both, all-keep, all-kept, all-
 use Rattle.laws.specs.Lists.Search.{find-has, place-length}
 use Rattle.laws.specs.Bytes.{part, value, little, number}
 use Rattle.laws.specs.Bytes.Laws.{little-length, value-little, number-1}
-use Rattle.paper.specs.Layout.{Bytes, Block, nOf, version, sender, sendersSlot, pair, mark, differing, first, partner, quantities, entry, quantity, withSendersSlot, withMark}
+use Rattle.paper.specs.Layout.{Bytes, Block, nOf, area, version, sender, sendersSlot, pair, key, mark, differing, first, partner, quantities, entry, quantity, withSendersSlot, withMark}
 use Rattle.paper.specs.Ranges.{versionAllowed, quantityAllowed, quantitiesAllowed}
-use Rattle.paper.specs.Book.{dayBlock, used, isSeries, numbered, isSenderBlockOf, slotOf, isSeriesOf, ownSeries, pairIs}
+use Rattle.paper.specs.Book.{dayBlock, used, isSeries, isExternal, numbered, isSenderBlockOf, slotOf, isSeriesOf, ownSeries, keyIs, trade}
 use Rattle.paper.specs.Sound.{partiesOf, ownerSound, partnerSound, seriesFields, seriesCodes, seriesValues, seriesSound, usedSound, differingSound, differingAllowed}
 use Rattle.paper.specs.Message.{headOf, seriesOf}
 use Rattle.paper.specs.Rules.{seriesVersion, storedOf}
 use Rattle.paper.specs.Marks.{isCounterpart, counterpart, counterpartSlot, differenceFrom, firstDifference, differences, markOf, markIn}
 use Rattle.paper.specs.Acceptance.{senderKept, touched, usedAfter}
-use Rattle.facts.specs.Layout.{with-senders-slot-length, mark-with-mark, pair-with-senders-slot, Alike, alike-senders-slot, alike-n, alike-version, alike-business-type, alike-contract-type, alike-id, alike-in-area, alike-out-area, alike-in-party, alike-out-party, alike-agreement, alike-quantity, alike-above, mark-differing, mark-first, mark-partner, zeros-above}
+use Rattle.facts.specs.Layout.{with-senders-slot-length, mark-with-mark, key-with-senders-slot, Alike, alike-senders-slot, alike-n, alike-version, alike-id, alike-key, alike-in-party, alike-out-party, alike-quantity, alike-above, mark-differing, mark-first, mark-partner, zeros-above}
 use Rattle.facts.specs.Book.{no-block-series, sender-block-sender, sender-block-eic, series-of-series, series-of-slot, numbered-place, used-lengths}
 use Rattle.facts.specs.Sound.{day-n, used-series, count-most, count-allowed}
 use Rattle.facts.specs.Verdict.{Line, Accepts}
 use Rattle.facts.specs.Marks.{differences-most}
+use Rattle.facts.specs.Keys.{key-type-allowed, key-capacity-allowed, key-areas-allowed, key-parties}
 use Rattle.facts.specs.Pairs.{counterpart-series}
-use Rattle.facts.specs.Remarking.{remarked-touched, remarked-untouched, alike-remarked, series-remarked, senders-slot-remarked, pair-remarked}
+use Rattle.facts.specs.Remarking.{remarked-touched, remarked-untouched, alike-remarked, series-remarked, senders-slot-remarked, key-remarked}
 use Rattle.facts.specs.Renewal.{Shape, shape, series-with-senders-slot, sender-kept-no-series, by-renewed, series-renewed, renewed-keeps, renewed-length, renewed-others-series, adopted, by-origin}
 use Rattle.promises.specs.Laws.Marks.{own-touched}
 use Rattle.promises.specs.Laws.Parts.{afterOf, Acceptance, parts}
@@ -68,8 +69,8 @@ fields-version d x f = and-right _ _ (and-left _ _ (and-left _ _ (and-left _ _ (
 pub fields-alike : (d x y : Block) → nOf d ≤ 100 → Alike x y → Fields d y → Fields d x
 unfolding seriesFields seriesCodes quantitiesAllowed
 fields-alike d x y h a f = record {
-  fields = rw (alike-n x y a, alike-version x y a, alike-business-type x y a, alike-contract-type x y a, alike-id x y a) (f .fields);
-  codes = rw (alike-in-area x y a, alike-out-area x y a, alike-in-party x y a, alike-out-party x y a, alike-agreement x y a) (f .codes);
+  fields = rw (alike-n x y a, alike-version x y a, key-type-allowed x y (alike-key x y a), key-capacity-allowed x y (alike-key x y a), alike-id x y a) (f .fields);
+  codes = rw (key-areas-allowed x y (alike-key x y a) (area d), alike-in-party x y a, alike-out-party x y a) (f .codes);
   entries = rw (
     below-agree (λ k. quantityAllowed (quantity x k)) (λ k. quantityAllowed (quantity y k)) (nOf d)
         (λ k l. ap quantityAllowed (alike-quantity x y a k (omega arith))),
@@ -82,12 +83,12 @@ fields-alike d x y h a f = record {
 version-line : (d : Block) (own : List Block) (h y : Block) → Line d own h y → versionAllowed (version h) ≡ true → All (λ x. versionAllowed (version x) ≡ true) own
     → versionAllowed (version y) ≡ true
 unfolding storedOf seriesVersion neg _or_
-version-line d own h y l v f = ap versionAllowed (l .version-is) ∙ by (find (pairIs (pair y)) own) refl
+version-line d own h y l v f = ap versionAllowed (l .version-is) ∙ by (find (keyIs (key y)) own) refl
   where
-    by : (o : Option Block) → find (pairIs (pair y)) own ≡ o → versionAllowed (seriesVersion (Option·getD (find (pairIs (pair y)) own) []) h y) ≡ true
+    by : (o : Option Block) → find (keyIs (key y)) own ≡ o → versionAllowed (seriesVersion (Option·getD (find (keyIs (key y)) own) []) h y) ≡ true
     by none e = rw (e, no-block-series) v
     by (some x) e = rw e (cond-either (neg (isSeries x) or neg (same (quantities x) (quantities y))) v (all-find (λ z. versionAllowed (version z) ≡ true)
-        (pairIs (pair y)) own x f e))
+        (keyIs (key y)) own x f e))
       where
         cond-either : (t : Bool) → versionAllowed (version h) ≡ true → versionAllowed (version x) ≡ true → versionAllowed (cond t (version h) (version x)) ≡ true
         cond-either true p q = p
@@ -97,8 +98,8 @@ fields-line : (d : Block) (own : List Block) (h y : Block) → nOf d ≤ 100 →
     (λ x. versionAllowed (version x) ≡ true) own → Fields d y
 unfolding seriesFields seriesCodes quantitiesAllowed quantityAllowed
 fields-line d own h y n l e v f = record {
-  fields = and-both _ _ (and-both _ _ (and-both _ _ (and-both _ _ (is-equal _ _ e) (version-line d own h y l v f)) (l .business)) (l .contract)) (l .id-formed);
-  codes = and-both _ _ (and-both _ _ (and-both _ _ (and-both _ _ (l .in-area) (l .out-area)) (l .in-valid)) (l .out-valid)) (l .no-agreement);
+  fields = and-both _ _ (and-both _ _ (and-both _ _ (and-both _ _ (is-equal _ _ e) (version-line d own h y l v f)) (l .type-allowed)) (l .capacity)) (l .id-formed);
+  codes = and-both _ _ (and-both _ _ (l .areas) (l .in-valid)) (l .out-valid);
   entries = and-both _ _ (below-each (λ k. upto (quantity y k) 9999999) (nOf d) (λ k t. upto-true _ _ (l .small k (omega arith) t)))
       (zeros-above (nOf d) y n (l .above));
 }
@@ -133,7 +134,7 @@ unfolding markIn counterpart counterpartSlot markOf firstDifference partnerSound
 marked-in d l m x whole few g = by (find p l) refl
   where
     p : Block → Bool
-    p = isCounterpart (sendersSlot x) (pair x)
+    p = isCounterpart (sendersSlot x) (trade x)
 
     by : (o : Option Block) → find p l ≡ o → Marked d m (withMark (markOf (nOf d) (quantities x) (Option·map quantities (find p l)) (place p l)) x)
     by none e = rw e (marked-by d m x whole 0 0 (0 ∷ 0 ∷ []) refl (omega arith) (omega arith)
@@ -145,11 +146,11 @@ marked-in d l m x whole few g = by (find p l) refl
         partner-by d m x whole c f (little 2 (place p l)) (little-length 2 (place p l)) ∙ partner-in c f (place p l) (omega (arith, place-length p l)) in
         rw e (marked-by d m x whole c f (little 2 (place p l)) (little-length 2 (place p l)) (differences-most (quantities x) (quantities y) (nOf d))
         (omega (arith, difference-small (nOf d) 0 (quantities x) (quantities y)))
-        (or-yes-right _ _ (rw k (g (place p l) (counterpart-series (sendersSlot x) (pair x) _ (numbered-place p l (find-has p l y e)))))))
+        (or-yes-right _ _ (rw k (g (place p l) (counterpart-series (sendersSlot x) (trade x) _ (numbered-place p l (find-has p l y e)))))))
 
 -- ---- of an accepted message
 
-pub owner-yes : (l : List Block) (e : Bytes) (i : ℕ) (x : Block) → sendersSlot x ≡ i → isSenderBlockOf e (numbered l i) ≡ true → partiesOf e (pair x) ≡ true
+pub owner-yes : (l : List Block) (e : Bytes) (i : ℕ) (x : Block) → sendersSlot x ≡ i → isSenderBlockOf e (numbered l i) ≡ true → partiesOf (isExternal x) e (pair x) ≡ true
     → ownerSound l x ≡ true
 unfolding ownerSound
 owner-yes l e i x o t p = rw (o, sender-block-eic e (numbered l i) t) (and-both _ _ (sender-block-sender e _ t) p)
@@ -159,10 +160,10 @@ record Right (d : Block) (e : Bytes) (y : Block) : Type 0 where
   pub whole : length y ≡ 512
   pub series : isSeries y ≡ true
   pub fields : Fields d y
-  pub parties : partiesOf e (pair y) ≡ true
+  pub parties : partiesOf (isExternal y) e (pair y) ≡ true
 
 module _ (book message : Bytes) (a : Accepts book message) where
-  open Acceptance (parts book message) using (d, us, h, series, slot, own, again, now, put, after)
+  open Acceptance (parts book message) using (d, ours, us, h, series, slot, own, again, now, put, after)
 
   c : Shape (used book) (headOf message) (seriesOf message)
   c = shape book message a
@@ -198,14 +199,14 @@ module _ (book message : Bytes) (a : Accepts book message) where
   unfolding ownerSound
   owner-stored x s o =
       owner-yes after (sender (numbered us (sendersSlot x))) (sendersSlot x) (put (again x))
-      (senders-slot-remarked _ _ _ (again x) ∙ renewed-keeps us h series c .slot x s) (sender-stored book message a (sendersSlot x) (and-left _ _ o))
-      (ap (partiesOf (sender (numbered us (sendersSlot x)))) (pair-remarked _ _ _ (again x) ∙ renewed-keeps us h series c .pairs x s) ∙ and-right _ _ o)
+      (senders-slot-remarked _ _ _ (again x) ∙ renewed-keeps ours us h series c .slot x s) (sender-stored book message a (sendersSlot x) (and-left _ _ o))
+      (key-parties _ x (key-remarked _ _ _ (again x) ∙ renewed-keeps ours us h series c .keys x s) _ ∙ and-right _ _ o)
 
   owner-new : (y : Block) → Right d (sender h) y → ownerSound after (put (withSendersSlot slot y)) ≡ true
   owner-new y q =
       owner-yes after (sender h) slot (put (withSendersSlot slot y))
-      (senders-slot-remarked _ _ _ (withSendersSlot slot y) ∙ adopted us h series c y (q .whole)) (sender-there book message a)
-      (ap (partiesOf (sender h)) (pair-remarked _ _ _ (withSendersSlot slot y) ∙ pair-with-senders-slot slot y) ∙ q .parties)
+      (senders-slot-remarked _ _ _ (withSendersSlot slot y) ∙ adopted ours us h series c y (q .whole)) (sender-there book message a)
+      (key-parties _ y (key-remarked _ _ _ (withSendersSlot slot y) ∙ key-with-senders-slot slot y) _ ∙ q .parties)
 
   -- the mark
 
@@ -220,18 +221,18 @@ module _ (book message : Bytes) (a : Accepts book message) where
   mark-stays x k = record { small-count = k .small-count; small-first = k .small-first; partner-series = partner-stored x (k .partner-series) }
 
   mark-stored : (x : Block) → length x ≡ 512 → isSeries x ≡ true → Marked d us x → Marked d after (put (again x))
-  mark-stored x l s k = split (touched slot now (again x)) (mark-touched (again x) (renewed-length us h series c x l)) left
+  mark-stored x l s k = split (touched slot now (again x)) (mark-touched (again x) (renewed-length ours us h series c x l)) left
     where
       left : touched slot now (again x) ≡ false → Marked d after (put (again x))
       left t =
-          let v : isSeriesOf slot x ≡ false = split (isSeriesOf slot x) (λ v. clash (own-touched slot now (again x) (series-renewed us h series c x ∙ s)
-          (renewed-keeps us h series c .slot x s ∙ series-of-slot slot x v)) t) (λ v. v) in
-          rw (remarked-untouched (nOf d) slot now (again x) t ∙ renewed-others-series us h series c x s v) (mark-stays x k)
+          let v : isSeriesOf slot x ≡ false = split (isSeriesOf slot x) (λ v. clash (own-touched slot now (again x) (series-renewed ours us h series c x ∙ s)
+          (renewed-keeps ours us h series c .slot x s ∙ series-of-slot slot x v)) t) (λ v. v) in
+          rw (remarked-untouched (nOf d) slot now (again x) t ∙ renewed-others-series ours us h series c x s v) (mark-stays x k)
 
   -- the rest
 
   fields-stored : (x : Block) → isSeries x ≡ true → Fields d x → Fields d (again x)
-  fields-stored x s f = by-renewed us h series c (Fields d) (Right d (sender h)) series-right x s f (λ u y q e. fields-alike d _ y n-few (alike-senders-slot slot y)
+  fields-stored x s f = by-renewed ours us h series c (Fields d) (Right d (sender h)) series-right x s f (λ u y q e. fields-alike d _ y n-few (alike-senders-slot slot y)
       (q .fields))
 
   fields-put : (x : Block) → Fields d x → Fields d (put x)
@@ -245,7 +246,7 @@ module _ (book message : Bytes) (a : Accepts book message) where
   unfolding usedAfter
   each-series-kept =
       all-map (λ z. isSeries z ≡ true → (seriesSound d after z ≡ true) × (differing z ≤ nOf d)) put now
-      (by-origin us h series c (λ z. isSeries (put z) ≡ true → (seriesSound d after (put z) ≡ true) × (differing (put z) ≤ nOf d))
+      (by-origin ours us h series c (λ z. isSeries (put z) ≡ true → (seriesSound d after (put z) ≡ true) × (differing (put z) ≤ nOf d))
       (λ x. (length x ≡ 512) × ((usedSound d us x ≡ true) × (differingSound differingAllowed (nOf d) x ≡ true)))
       (Right d (sender h))
       (all-both (λ x. length x ≡ 512) (λ x. (usedSound d us x ≡ true) × (differingSound differingAllowed (nOf d) x ≡ true)) us (used-lengths book)
@@ -255,20 +256,20 @@ module _ (book message : Bytes) (a : Accepts book message) where
       stored : (x : Block) → (length x ≡ 512) × ((usedSound d us x ≡ true) × (differingSound differingAllowed (nOf d) x ≡ true)) → isSeries (put (again x)) ≡ true
           → (seriesSound d after (put (again x)) ≡ true) × (differing (put (again x)) ≤ nOf d)
       stored x q s =
-          let r : isSeries x ≡ true = sym (series-renewed us h series c x) ∙ sym (series-remarked _ _ _ (again x)) ∙ s in
+          let r : isSeries x ≡ true = sym (series-renewed ours us h series c x) ∙ sym (series-remarked _ _ _ (again x)) ∙ s in
           let k : seriesSound d us x ≡ true = used-series d us x (q .1 .0) r in
           sound-after (put (again x)) (fields-put (again x) (fields-stored x r (fields-of d us x k)))
           (mark-stored x (q .0) r (marked-of d us x k (count-most (nOf d) x (q .1 .1) r))) (owner-stored x r (owner-of d us x k))
 
-      added : isSeries (put (senderKept h series)) ≡ true → (seriesSound d after (put (senderKept h series)) ≡ true) × (differing (put (senderKept h series)) ≤ nOf d)
-      added s = clash (sym (series-remarked _ _ _ (senderKept h series)) ∙ s) (sender-kept-no-series us h series c)
+      added : isSeries (put (senderKept ours h series)) ≡ true → (seriesSound d after (put (senderKept ours h series)) ≡ true) × (differing (put (senderKept ours h series)) ≤ nOf d)
+      added s = clash (sym (series-remarked _ _ _ (senderKept ours h series)) ∙ s) (sender-kept-no-series ours us h series c)
 
       young : (y : Block) → Right d (sender h) y → isSeries (put (withSendersSlot slot y)) ≡ true
           → (seriesSound d after (put (withSendersSlot slot y)) ≡ true) × (differing (put (withSendersSlot slot y)) ≤ nOf d)
       young y q s =
           sound-after (put (withSendersSlot slot y)) (fields-put _ (fields-alike d _ y n-few (alike-senders-slot slot y) (q .fields)))
           (mark-touched (withSendersSlot slot y) (with-senders-slot-length slot y ∙ q .whole) (own-touched slot now (withSendersSlot slot y)
-          (series-with-senders-slot slot y ∙ q .series) (adopted us h series c y (q .whole))))
+          (series-with-senders-slot slot y ∙ q .series) (adopted ours us h series c y (q .whole))))
           (owner-new y q)
 
   pub counts-kept : All (λ z. differingSound differingAllowed (nOf (dayBlock book)) z ≡ true) (afterOf book message)

@@ -15,14 +15,14 @@ use Rattle.promises.specs.Laws.Parts.{senderSlot, placedOf, afterOf, Acc
 use Rattle.promises.specs.Laws.ReadBack.{after-fits}
 
 module _ (book message : Bytes) (a : Accepts book message) where
-  open Acceptance (parts book message) using (us, h, series, again, now, put, after)
+  open Acceptance (parts book message) using (ours, us, h, series, again, now, put, after)
 
   c : Shape (used book) (headOf message) (seriesOf message)
   c = shape book message a
 
   placed-most : length us ≤ length now
   unfolding placed
-  placed-most = omega (arith, length-append (map again us) (fresh us h series), length-map us again)
+  placed-most = omega (arith, length-append (map again us) (fresh ours us h series), length-map us again)
 
   placed-after : length after ≡ length now
   unfolding usedAfter
@@ -37,7 +37,7 @@ module _ (book message : Bytes) (a : Accepts book message) where
 
   numbered-placed : (i : ℕ) → zero < i → i ≤ length us → numbered now i ≡ again (numbered us i)
   unfolding placed
-  numbered-placed i p q = numbered-append-left (map again us) (fresh us h series) i (omega (arith, length-map us again)) ∙ numbered-map again us i p q
+  numbered-placed i p q = numbered-append-left (map again us) (fresh ours us h series) i (omega (arith, length-map us again)) ∙ numbered-map again us i p q
 
   numbered-stored : (i : ℕ) → zero < i → i ≤ length us → numbered after i ≡ put (again (numbered us i))
   numbered-stored i p q = numbered-after i p (omega (arith, placed-most)) ∙ ap put (numbered-placed i p q)
@@ -50,7 +50,7 @@ module _ (book message : Bytes) (a : Accepts book message) where
   pub series-stored : (i : ℕ) → isSeries (numbered (used book) i) ≡ true → isSeries (numbered (afterOf book message) i) ≡ true
   series-stored i e =
       let r = numbered-inside us i isSeries no-block-series e in
-      ap isSeries (numbered-stored i (r .0) (r .1)) ∙ series-remarked _ _ _ (again (numbered us i)) ∙ series-renewed us h series c (numbered us i) ∙ e
+      ap isSeries (numbered-stored i (r .0) (r .1)) ∙ series-remarked _ _ _ (again (numbered us i)) ∙ series-renewed ours us h series c (numbered us i) ∙ e
 
   -- a sender stays the same sender
   pub sender-stored : (i : ℕ) → isSender (numbered (used book) i) ≡ true → isSenderBlockOf (sender (numbered (used book) i))
@@ -58,7 +58,7 @@ module _ (book message : Bytes) (a : Accepts book message) where
   sender-stored i e =
       let r = numbered-inside us i isSender no-block-sender e in
       ap (isSenderBlockOf (sender (numbered us i))) (numbered-stored i (r .0) (r .1)) ∙ sender-block-remarked _ _ _ (sender (numbered us i)) (again (numbered us i))
-      ∙ sender-block-renewed us h series c (sender (numbered us i)) (numbered us i) ∙ sender-block-own (numbered us i) e
+      ∙ sender-block-renewed ours us h series c (sender (numbered us i)) (numbered us i) ∙ sender-block-own (numbered us i) e
 
   -- the message's sender stands in its slot
   slot-positive : zero < senderSlot book message
@@ -68,5 +68,5 @@ module _ (book message : Bytes) (a : Accepts book message) where
   pub sender-there : isSenderBlockOf (sender (headOf message)) (numbered (afterOf book message) (senderSlot book message)) ≡ true
   unfolding slotOf
   sender-there = split (has (isSenderBlockOf (sender h)) after)
-      (λ t. rw (slot-after-own us h series c (nOf (dayBlock book))) at (numbered-place (isSenderBlockOf (sender h)) after t))
-      (λ t. absurd (omega (arith, slot-of-none after (sender h) t, slot-positive, slot-after-own us h series c (nOf (dayBlock book)))))
+      (λ t. rw (slot-after-own ours us h series c (nOf (dayBlock book))) at (numbered-place (isSenderBlockOf (sender h)) after t))
+      (λ t. absurd (omega (arith, slot-of-none after (sender h) t, slot-positive, slot-after-own ours us h series c (nOf (dayBlock book)))))

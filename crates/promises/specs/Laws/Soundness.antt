@@ -13,7 +13,7 @@ use Rattle.paper.specs.Check.{checkRight}
 use Rattle.paper.specs.Layout.{Bytes, Block, blocks, zeros, nOf, ruleOf, dayOfBook, area, receiver, withClock}
 use Rattle.paper.specs.Ranges.{clockAllowed}
 use Rattle.paper.specs.Book.{dayBlock, slots, isFree, used}
-use Rattle.paper.specs.Sound.{dayFields, daySound, senderFields, senderDayAndNets, senderSound, seriesFields, seriesCodes, seriesValues, seriesSound, usedSound, sound}
+use Rattle.paper.specs.Sound.{dayFields, daySound, senderFields, senderDayAndNets, senderSound, seriesFields, seriesCodes, seriesValues, seriesSound, rightFields, rightSound, usedSound, sound}
 use Rattle.paper.specs.Rules.{numberOf, verdict}
 use Rattle.paper.specs.Acceptance.{accepted, submitted}
 use Rattle.paper.specs.Opening.{Opening, dayBlockOf, openNumber, opened}
@@ -30,6 +30,7 @@ use Rattle.promises.specs.Laws.ReadBack.{rewrites}
 use Rattle.promises.specs.Laws.SoundBytes.{checks-kept}
 use Rattle.promises.specs.Laws.SoundApart.{senders-kept, series-kept}
 use Rattle.promises.specs.Laws.SoundSeries.{counts-kept}
+use Rattle.promises.specs.Laws.SoundRights.{rights-kept}
 use Rattle.promises.specs.Laws.SoundSenders.{each-kept}
 use Rattle.promises.specs.Laws.Refusals.{submission-accepted}
 
@@ -38,7 +39,7 @@ use Rattle.promises.specs.Laws.Refusals.{submission-accepted}
 pub sound-accepted : (book message : Bytes) → Accepts book message → Sound (accepted book message)
 unfolding accepted
 sound-accepted book message a = sound-rewritten book (afterOf book message) (rewrites book message a) (checks-kept book message a) (each-kept book message a)
-    (senders-kept book message a) (series-kept book message a) (counts-kept book message a)
+    (senders-kept book message a) (series-kept book message a) (rights-kept book message a) (counts-kept book message a)
 
 -- ---- a clock move
 
@@ -65,7 +66,7 @@ day-sound-moved minute d e h k =
 -- what a used block takes of the day block
 used-sound-day : (d e : Block) (us : List Block) (x : Block) → nOf d ≡ nOf e → receiver d ≡ receiver e → dayOfBook d ≡ dayOfBook e → area d ≡ area e
     → usedSound d us x ≡ usedSound e us x
-unfolding usedSound senderSound senderFields senderDayAndNets seriesSound seriesFields seriesCodes seriesValues
+unfolding usedSound senderSound senderFields senderDayAndNets seriesSound seriesFields seriesCodes seriesValues rightSound rightFields
 used-sound-day d e us x n r p a = rw (n, r, p, a)
 
 module _ (book : Bytes) (minute : ℕ) (m : Moves book minute) where
@@ -110,6 +111,7 @@ module _ (book : Bytes) (minute : ℕ) (m : Moves book minute) where
     each = rw (day-block-moved, used-moved) each-moved;
     senders = rw used-moved (m .was .senders);
     series = rw used-moved (m .was .series);
+    rights = rw used-moved (m .was .rights);
     counts = rw (ap nOf day-block-moved ∙ n-with-clock minute (dayBlock book), used-moved) (m .was .counts);
   }
 
@@ -162,6 +164,7 @@ module _ (book : Bytes) (o : Opening) (p : Opens book o) where
     each = rw used-opened tt;
     senders = rw used-opened;
     series = rw used-opened;
+    rights = rw used-opened;
     counts = rw used-opened tt;
   }
 

@@ -29,14 +29,14 @@ free-checks s w t = all-every _ _ (all-imply (λ x. isFree x ≡ true) (λ x. ch
 
 -- ---- the tests, in the code's order
 
-free-first : (c d u e s t g : Bool) → (true and c and d and u and e and s and t and g) ≡ (u and (c and d and (e and s and t and g)))
+free-first : (c d u e s t r g : Bool) → (true and c and d and u and e and s and t and r and g) ≡ (u and (c and d and (e and s and t and r and g)))
 unfolding _and_
-free-first true true true e s t g = refl
-free-first true true false e s t g = refl
-free-first true false true e s t g = refl
-free-first true false false e s t g = refl
-free-first false d true e s t g = refl
-free-first false d false e s t g = refl
+free-first true true true e s t r g = refl
+free-first true true false e s t r g = refl
+free-first true false true e s t r g = refl
+free-first true false false e s t r g = refl
+free-first false d true e s t r g = refl
+free-first false d false e s t r g = refl
 
 -- what follows a test counts only where the test holds
 where-first : (z x y d e : Bool) → (z ≡ true → x ≡ y) → (z and (x and d and e)) ≡ (z and (y and d and e))
@@ -105,7 +105,7 @@ module _ (b : Bytes) (e : wholeBlocks 2 1001 b ≡ true) where
 
       in-order : (allowed : ℕ → ℕ → Bool) → soundOver allowed b ≡ (zeros (drop (512 + 512 * many) b) and (every checkRight (cut 512 b) and daySound (part 0 512 b) and eachUsed allowed (part 0 512 b) (used b)))
       unfolding soundOver dayBlock eachUsed part
-      in-order allowed = rw (e, ← first) (free-first _ _ _ _ _ _ _)
+      in-order allowed = rw (e, ← first) (free-first _ _ _ _ _ _ _ _)
 
       pub sound-split : (allowed : ℕ → ℕ → Bool) → soundOver allowed b ≡ (zeros (take (length b - (512 + 512 * many)) (drop (512 + 512 * many) b)) and filledSound allowed (take (512 + 512 * many) b))
       unfolding filledSound

@@ -1,23 +1,35 @@
 -- A block clashes with none outside its group, so a walk along the group tells whether it clashes with any.
-use Rattle.laws.specs.Kit.{_≡_, refl, sym, ap, _∙_, Bool, true, false, List, [], ℕ, _+_, _<_, length, drop, getD, _and_, neg, split, clash, and-left, and-right, or-else, is-yes, neg-true, is-same, is-equal}
+use Rattle.laws.specs.Kit.{_≡_, refl, sym, ap, _∙_, Bool, true, false, List, [], ℕ, _+_, _%_, _<_, length, drop, getD, _and_, neg, split, clash, and-left, and-right, or-no, or-else, is-yes, neg-true, is-same, is-equal}
 use Rattle.laws.specs.Lists.{every}
 use Rattle.paper.specs.Layout.{Block}
-use Rattle.paper.specs.Sound.{sameSender, sameSeries}
-use Rattle.facts.specs.Book.{sender-not-series}
+use Rattle.paper.specs.Sound.{sameSender, sameSeries, sameRight}
+use Rattle.facts.specs.Book.{sender-not-series, sender-not-right, right-not-series}
 use Rattle.laws.specs.Skips.{Skips, step-at}
 use Rattle.sound.specs.Used.{clashes}
 use Rattle.sound.specs.Links.{group, inGroup}
+use Rattle.sound.proofs.Laws.Tags.{right-tag}
 
 pub own-group : (a : Block) → inGroup (group a) a ≡ true
 unfolding inGroup
 own-group a = is-same (group a)
 
 clash-group : (a b : Block) → clashes a b ≡ true → inGroup (group a) b ≡ true
-unfolding clashes sameSender sameSeries inGroup group
+unfolding clashes sameSender sameSeries sameRight inGroup group
 clash-group a b e =
     split (sameSender a b)
-    (λ t. let u = and-left _ _ t in rw (sender-not-series a (and-left _ _ u), sender-not-series b (and-right _ _ u)) (is-same 0))
-    (λ t. let u = and-left _ _ (or-else _ _ e t) in let v = and-left _ _ u in rw (and-left _ _ v, and-right _ _ v) (is-equal _ _ (sym (is-yes _ _ (and-right _ _ u)))))
+    (λ t.
+    let u = and-left _ _ t in
+    let m = and-left _ _ u in
+    let n = and-right _ _ u in
+    rw (sender-not-series a m, sender-not-series b n, sender-not-right a m, sender-not-right b n) (is-same 0))
+    (λ t. split (sameSeries a b)
+    (λ s. let u = and-left _ _ s in let v = and-left _ _ u in rw (and-left _ _ v, and-right _ _ v) (is-equal _ _ (sym (is-yes _ _ (and-right _ _ u)))))
+    (λ s.
+    let r = or-else _ _ e (or-no _ _ t s) in
+    let u = and-left _ _ r in
+    let m = and-left _ _ u in
+    let n = and-right _ _ u in
+    rw (right-not-series a m, right-not-series b n, m, n) (is-equal _ _ (ap (λ k. 1001 + k % 23) (sym (right-tag a b r))))))
 
 module _ (a : Block) where
   -- it clashes with none of some blocks

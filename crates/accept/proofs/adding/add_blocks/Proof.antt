@@ -9,23 +9,23 @@ use Rattle.accept.proofs.adding.add_blocks.Tie as tie
 
 add-sender-requires : tie.Need-add-sender-requires
 add-sender-requires c κs =
-    let a = c .before .before .before .before in
-    let r = sender-room (a .args .used) (cut 512 (now (a .args .slots))) (senderIfNew (a .args .had .0) (now (a .args .head)) (cut 512 (now (a .args .series)))) (addedTo (a .args .slot .0) (now (a .args .places)) (cut 512 (now (a .args .series))) (length (now (a .args .series)) / 512)) (omega (arith, a .pre .0, cut-length 512 (now (a .args .slots)))) in
-    (omega (arith, r, cut-length 512 (now (a .args .slots))), a .pre .1, omega (arith, a .pre .2))
+    let a = c .before .before .before in
+    let r = sender-room (a .args .used) (cut 512 (now (a .args .slots))) (senderIfNew (a .args .had .0) (now (a .args .kept))) (addedTo (a .args .slot .0) (now (a .args .places)) (cut 512 (now (a .args .series))) (length (now (a .args .series)) / 512)) (omega (arith, a .pre .0, cut-length 512 (now (a .args .slots)))) in
+    omega (arith, r, cut-length 512 (now (a .args .slots)))
 
 add-series-requires : tie.Need-add-series-requires
 add-series-requires c κs =
     let s = c .before .before .before in
-    let a = s .before .before .before .before .before in
-    let r = series-room (a .args .used) (cut 512 (now (a .args .slots))) (senderIfNew (a .args .had .0) (now (a .args .head)) (cut 512 (now (a .args .series)))) (addedTo (a .args .slot .0) (now (a .args .places)) (cut 512 (now (a .args .series))) (length (now (a .args .series)) / 512)) (omega (arith, a .pre .0, cut-length 512 (now (a .args .slots)))) (s .add-sender .ensures) in
-    (a .pre .2, omega (arith, r, cut-length 512 (now (a .args .slots))))
+    let a = s .before .before .before .before in
+    let r = series-room (a .args .used) (cut 512 (now (a .args .slots))) (senderIfNew (a .args .had .0) (now (a .args .kept))) (addedTo (a .args .slot .0) (now (a .args .places)) (cut 512 (now (a .args .series))) (length (now (a .args .series)) / 512)) (omega (arith, a .pre .0, cut-length 512 (now (a .args .slots)))) (s .add-sender .ensures) in
+    (a .pre .1, omega (arith, r, cut-length 512 (now (a .args .slots))))
 
 returns : tie.Need-returns
 returns c =
     let r = c .before .before in
     let s = r .before .before .before .before in
-    let a = s .before .before .before .before .before in
-    let l = both-laid (a .args .used) (cut 512 (now (a .args .slots))) (senderIfNew (a .args .had .0) (now (a .args .head)) (cut 512 (now (a .args .series)))) (addedTo (a .args .slot .0) (now (a .args .places)) (cut 512 (now (a .args .series))) (length (now (a .args .series)) / 512)) (omega (arith, a .pre .0, cut-length 512 (now (a .args .slots)))) (s .add-sender .ensures) (r .add-series .ensures) in
+    let a = s .before .before .before .before in
+    let l = both-laid (a .args .used) (cut 512 (now (a .args .slots))) (senderIfNew (a .args .had .0) (now (a .args .kept))) (addedTo (a .args .slot .0) (now (a .args .places)) (cut 512 (now (a .args .series))) (length (now (a .args .series)) / 512)) (omega (arith, a .pre .0, cut-length 512 (now (a .args .slots)))) (s .add-sender .ensures) (r .add-series .ensures) in
     record { laid = l; fits = omega (arith, a .pre .0, l .end) }
 
 pub add-blocks-spec : {M : Type 1} → statement M

@@ -5,7 +5,7 @@ use Rattle.laws.specs.Cut.Laws.{cut-length}
 use Rattle.laws.specs.InPlace.{done, done-none, done-all}
 use Rattle.paper.specs.Acceptance.{remarked}
 use Rattle.accept.specs.Steps.{touchedBy}
-use Rattle.accept.proofs.Laws.Marking.{side-kept, touched-number, partner-kept, marked-more, left-more}
+use Rattle.accept.proofs.Laws.Marking.{side-kept, partner-kept, marked-more, left-more}
 use Rattle.accept.proofs.remarking.remark_each.Statement.{statement}
 use Rattle.accept.proofs.remarking.remark_each.Tie as tie
 
@@ -26,7 +26,7 @@ partner-of-requires c κs =
     let i = w .before .before .before in
     let a = i .before .before in
     let s = side-kept _ _ (cut 512 (now (a .args .us))) _ (i .loop .i) (omega (arith, cut-length 512 (now (a .args .us)))) (i .loop .inv .3) _ _ _ (a .pre .2) (w .wide .ensures) in
-    (touched-number _ _ (k .is-touched .ensures) (c .before .before .if1 .taken), s .few)
+    s .few
 
 remark-requires : tie.Need-remark-requires Inv-loop μ-loop
 remark-requires c κs =

@@ -1,6 +1,7 @@
--- The tests are the definition's, in its order; the message's series of the block's pair is the first that has it.
+-- The tests are the definition's, in its order; the message's series of the block's key is the first that has it.
 use Rattle.laws.specs.Kit.{arith, sym, ap, _∙_, _-_, now, length}
 use Rattle.laws.specs.Lists.Search.{place-within}
+use Rattle.laws.specs.Bytes.Laws.{written-all}
 use Rattle.laws.specs.Cut.{cut}
 use Rattle.laws.specs.Cut.Laws.{cut-length}
 use Rattle.paper.specs.Layout.{withSendersSlot}
@@ -12,8 +13,8 @@ use Rattle.accept.proofs.renewal.renew.Tie as tie
 the-sender : tie.Need-returns
 the-sender c =
     let w = c .before .before in
-    let t = w .before .before in
-    w .write-sender .ensures ∙ renewed-sender _ _ _ _ (t .if1 .taken) (rw (t .before .before .sender .ensures) at (t .before .is-sender-block-of .ensures))
+    let t = w .before .before .before in
+    w .write-bytes .ensures ∙ written-all _ _ (omega arith) ∙ renewed-sender _ _ _ _ (t .if1 .taken) (rw (t .before .before .sender .ensures) at (t .before .is-sender-block-of .ensures))
 
 absent : tie.Need-returns-2
 absent c =
@@ -21,14 +22,14 @@ absent c =
     let s = u .before in
     let t = s .before .before in
     let a = t .before .before .before .before .before .before .before in
-    renewed-absent _ _ _ _ (t .if1 .left) (rw (t .before .before .sender .ensures) at (t .before .is-sender-block-of .ensures)) (u .if2 .taken) (s .is-series-of .ensures) _ (a .pre .3) (c .if3 .taken)
+    renewed-absent _ _ _ _ (t .if1 .left) (rw (t .before .before .sender .ensures) at (t .before .is-sender-block-of .ensures)) (u .if2 .taken) (s .is-series-of .ensures) _ (a .pre .1) (c .if3 .taken)
 
 write-series-requires : tie.Need-write-series-requires
 write-series-requires c κs =
     let u = c .before .before .before in
     let a = u .before .before .before .before .before .before .before .before .before .before in
     let k = a .args .number in
-    a .pre .0 ∙ sym (ap length (c .block-at .ensures) ∙ block-whole (now (a .args .series)) (k - 1) (omega (arith, cut-length 512 (now (a .args .series)), place-within _ (cut 512 (now (a .args .series))) k (a .pre .3))))
+    a .pre .0 ∙ sym (ap length (c .block-at .ensures) ∙ block-whole (now (a .args .series)) (k - 1) (omega (arith, cut-length 512 (now (a .args .series)), place-within _ (cut 512 (now (a .args .series))) k (a .pre .1))))
 
 a-series : tie.Need-returns-3
 a-series c =
@@ -40,7 +41,7 @@ a-series c =
     let t = s .before .before in
     let a = t .before .before .before .before .before .before .before in
     w .write-series .ensures ∙ ap (withSendersSlot (a .args .slot .0)) (b .block-at .ensures)
-    ∙ renewed-series _ _ _ _ (t .if1 .left) (rw (t .before .before .sender .ensures) at (t .before .is-sender-block-of .ensures)) (u .if2 .taken) (s .is-series-of .ensures) _ (a .pre .3) (o .if3 .left)
+    ∙ renewed-series _ _ _ _ (t .if1 .left) (rw (t .before .before .sender .ensures) at (t .before .is-sender-block-of .ensures)) (u .if2 .taken) (s .is-series-of .ensures) _ (a .pre .1) (o .if3 .left)
 
 another : tie.Need-returns-4
 another c =

@@ -3,7 +3,7 @@ use Rattle.laws.specs.Kit.{arith, _≡_, _∙_, _≤_, _-_, _/_, [], length, no
 use Rattle.laws.specs.Cut.{cut}
 use Rattle.laws.specs.Cut.Laws.{cut-length}
 use Rattle.laws.specs.InPlace.{done, done-none, done-more-alone, done-all}
-use Rattle.paper.specs.Acceptance.{renewed}
+use Rattle.accept.specs.Steps.{renewedWith}
 use Rattle.slots.proofs.Laws.{block-some}
 use Rattle.slots.proofs.Laws.Lent.{cut-lent}
 use Rattle.accept.proofs.Laws.Renewing.{number-of}
@@ -11,10 +11,10 @@ use Rattle.accept.proofs.renewal.renew_all.Statement.{statement}
 use Rattle.accept.proofs.renewal.renew_all.Tie as tie
 
 abbrev Inv-loop : tie.InvT-loop
-Inv-loop us₀ head series slot numbers blocks i₀ us i = (i ≤ blocks) × (blocks ≡ length us₀ / 512) × (length us ≡ length us₀) × (cut 512 us ≡ done (λ l. renewed (slot .0) head (cut 512 series)) (cut 512 us₀) i)
+Inv-loop us₀ kept series slot numbers blocks i₀ us i = (i ≤ blocks) × (blocks ≡ length us₀ / 512) × (length us ≡ length us₀) × (cut 512 us ≡ done (λ l. renewedWith (slot .0) kept (cut 512 series)) (cut 512 us₀) i)
 
 abbrev μ-loop : tie.MeasureT-loop
-μ-loop us₀ head series slot numbers blocks i₀ us i = blocks - i
+μ-loop us₀ kept series slot numbers blocks i₀ us i = blocks - i
 
 loop-holds : tie.Need-loop-holds Inv-loop μ-loop
 loop-holds c = (omega arith, omega arith, omega arith, done-none _ _)
@@ -23,12 +23,10 @@ renew-requires : tie.Need-renew-requires Inv-loop μ-loop
 renew-requires c κs =
     let w = c .before in
     let i = w .before .before .before in
-    let a = i .before .before .before .before in
-    let f = renewed (a .args .slot .0) (now (a .args .head)) (cut 512 (now (a .args .series))) in (
+    let a = i .before .before .before in
+    let f = renewedWith (a .args .slot .0) (now (a .args .kept)) (cut 512 (now (a .args .series))) in (
       omega arith,
-      a .pre .1,
-      a .pre .2,
-      number-of f (cut 512 (now (a .args .us))) _ (now (a .args .numbers)) (a .pre .3) (i .loop .i) (omega (arith, cut-length 512 (now (a .args .us)))) (cut 512 (i .loop .us)) (i .loop .inv .3) _ (w .wide .ensures) _
+      number-of f (cut 512 (now (a .args .us))) _ (now (a .args .numbers)) (a .pre .1) (i .loop .i) (omega (arith, cut-length 512 (now (a .args .us)))) (cut 512 (i .loop .us)) (i .loop .inv .3) _ (w .wide .ensures) _
           (block-some (i .loop .us) (i .loop .i) (omega arith)),
     )
 
@@ -36,8 +34,8 @@ loop-again : tie.Need-loop-again Inv-loop μ-loop
 loop-again c =
     let m = c .before .before in
     let i = m .before .before .before .before .before in
-    let a = i .before .before .before .before in
-    let f = renewed (a .args .slot .0) (now (a .args .head)) (cut 512 (now (a .args .series))) in (
+    let a = i .before .before .before in
+    let f = renewedWith (a .args .slot .0) (now (a .args .kept)) (cut 512 (now (a .args .series))) in (
       omega arith,
       i .loop .inv .1,
       omega arith,
@@ -48,7 +46,7 @@ loop-again c =
 returns : tie.Need-returns Inv-loop μ-loop
 returns c =
     let i = c .before in
-    let a = i .before .before .before .before in
+    let a = i .before .before .before in
     i .loop .inv .3 ∙ done-all _ _ (i .loop .i) (omega (arith, cut-length 512 (now (a .args .us))))
 
 pub renew-all-spec : {M : Type 1} → statement M

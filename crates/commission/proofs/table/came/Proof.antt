@@ -42,10 +42,14 @@ unfolding came bookAfter is
 returns-9 c = let o = c .before .before in rw (o .before .before .match .keys9) (o .convert .ensures)
 
 returns-10 : tie.Need-returns-10
+unfolding came bookAfter is
+returns-10 c = let o = c .before .before in rw (o .before .before .match .keys10) (o .entered .ensures)
+
+returns-11 : tie.Need-returns-11
 unfolding came bookAfter
-returns-10 c =
+returns-11 c =
     let n = c .before .match .rest in
-    rw (is-other _ 1 (n .0 .0 .0 .0 .0 .0 .0 .0 .1), is-other _ 2 (n .0 .0 .0 .0 .0 .0 .0 .1), is-other _ 3 (n .0 .0 .0 .0 .0 .0 .1), is-other _ 5 (n .0 .0 .0 .0 .0 .1), is-other _ 6 (n .0 .0 .0 .0 .1), is-other _ 9 (n .0 .0 .0 .1), is-other _ 10 (n .0 .0 .1), is-other _ 11 (n .0 .1), is-other _ 13 (n .1)) (c .check .ensures, refl)
+    rw (is-other _ 1 (n .0 .0 .0 .0 .0 .0 .0 .0 .0 .1), is-other _ 2 (n .0 .0 .0 .0 .0 .0 .0 .0 .1), is-other _ 3 (n .0 .0 .0 .0 .0 .0 .0 .1), is-other _ 5 (n .0 .0 .0 .0 .0 .0 .1), is-other _ 6 (n .0 .0 .0 .0 .0 .1), is-other _ 9 (n .0 .0 .0 .0 .1), is-other _ 10 (n .0 .0 .0 .1), is-other _ 11 (n .0 .0 .1), is-other _ 13 (n .0 .1), is-other _ 14 (n .1)) (c .check .ensures, refl)
 
 pub came-spec : {M : Type 1} → statement M
-came-spec = tie.close (tie.spec (λ c κs. tt) (λ c κs. tt) (λ c κs. tt) (λ c κs. tt) (λ c κs. tt) (λ c κs. tt) (λ c κs. tt) (search needs) (λ c κs. tt) (λ c κs. tt) (λ c κs. tt) (search needs) returns (search needs) returns-2 (search needs) returns-3 (search needs) returns-4 (search needs) returns-5 (search needs) returns-6 returns-7 returns-8 (search needs) returns-9 returns-10)
+came-spec = tie.close (tie.spec (λ c κs. tt) (λ c κs. tt) (λ c κs. tt) (λ c κs. tt) (λ c κs. tt) (λ c κs. tt) (λ c κs. tt) (search needs) (λ c κs. tt) (λ c κs. tt) (λ c κs. tt) (λ c κs. tt) (search needs) returns (search needs) returns-2 (search needs) returns-3 (search needs) returns-4 (search needs) returns-5 (search needs) returns-6 returns-7 returns-8 (search needs) returns-9 (search needs) returns-10 returns-11)

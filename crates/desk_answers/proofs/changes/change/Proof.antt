@@ -20,5 +20,9 @@ returns-4 : tie.Need-returns-4
 unfolding changeNumber changeLine changed
 returns-4 c = rw (c .before .before .before .before .before .before .before .enum-told2 .given .1) (c .before .before .before .before .convert-told .ensures)
 
+returns-5 : tie.Need-returns-5
+unfolding changeNumber changeLine changed
+returns-5 c = rw (c .before .before .before .before .before .before .before .enum-told3 .given .1) (c .before .before .before .before .enter-told .ensures)
+
 pub change-spec : {M : Type 1} → statement M
-change-spec = tie.close (tie.spec (search needs) (search needs) (search needs) (search needs) (search needs) (search needs) (search needs) (search needs) (search needs) (search needs) returns (search needs) (search needs) returns-2 (search needs) (search needs) returns-3 (search needs) (search needs) returns-4)
+change-spec = tie.close (tie.spec (search needs) (search needs) (search needs) (search needs) (search needs) (search needs) (search needs) (search needs) (search needs) (search needs) (search needs) (search needs) returns (search needs) (search needs) returns-2 (search needs) (search needs) returns-3 (search needs) (search needs) returns-4 (search needs) (search needs) returns-5)

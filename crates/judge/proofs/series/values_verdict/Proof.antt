@@ -1,17 +1,21 @@
 -- The three verdicts are joined as the definition joins them.
-use Rattle.laws.specs.Kit.{arith}
-use Rattle.paper.specs.Rules.{valuesVerdict}
-use Rattle.judge.proofs.Laws.Order.{broken-by, then-two}
+use Rattle.laws.specs.Kit.{arith, ap, _∙_}
+use Rattle.paper.specs.Book.{numbered}
+use Rattle.judge.specs.Order.{valuesBy}
+use Rattle.judge.proofs.Laws.Order.{then-two}
 use Rattle.judge.proofs.series.values_verdict.Statement.{statement}
 use Rattle.judge.proofs.series.values_verdict.Tie as tie
 
 returns : tie.Need-returns
-unfolding valuesVerdict
+unfolding valuesBy
 returns c =
-    let r = c .before .before in
-    let q = r .before .before .before in
-    then-two (c .then2 .ensures) (rw (q .before .n-of .ensures) at (q .quantity-verdict .ensures))
-    (then-two (c .before .then .ensures) (r .before .before .closed-verdict .ensures) (broken-by _ _ _ (r .broken .ensures) (r .before .rule-15 .ensures)))
+    let l = c .before .before in
+    let x = l .before in
+    let r = x .before .before in
+    let q = r .before in
+    let n = q .before .n-of .ensures in
+    then-two (c .then2 .ensures) (rw n at (q .quantity-verdict .ensures))
+    (then-two (c .before .then .ensures) (rw n at (r .right-verdict .ensures)) (rw (x .numbered .ensures ∙ ap (numbered _) (x .before .wide .ensures)) at (l .late-verdict .ensures)))
 
 pub values-verdict-spec : {M : Type 1} → statement M
 values-verdict-spec =
@@ -19,6 +23,7 @@ values-verdict-spec =
     (tie.spec
     (λ c κs. tt)
     (λ c. omega arith)
+    (λ c κs. tt)
     (λ c κs. tt)
     (λ c κs. tt)
     (λ c κs. tt)

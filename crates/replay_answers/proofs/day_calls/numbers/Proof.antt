@@ -29,14 +29,20 @@ returns-4 c =
     rw (o .before .before .before .match .keys4) (rw (o .before .byte-or-zero .ensures) at (o .open2 .ensures))
 
 returns-5 : tie.Need-returns-5
-unfolding dayNumbers dayAfter
+unfolding dayNumbers dayAfter is
 returns-5 c =
     let k = c .before .before in
+    rw (k .before .before .match .keys5) (k .convert .ensures)
+
+returns-6 : tie.Need-returns-6
+unfolding dayNumbers dayAfter
+returns-6 c =
+    let k = c .before .before in
     let rest = k .before .before .match .rest in
-    rw (is-other _ _ (rest .0 .0 .0 .1), is-other _ _ (rest .0 .0 .1), is-other _ _ (rest .0 .1), is-other _ _ (rest .1)) (k .convert .ensures)
+    rw (is-other _ _ (rest .0 .0 .0 .0 .1), is-other _ _ (rest .0 .0 .0 .1), is-other _ _ (rest .0 .0 .1), is-other _ _ (rest .0 .1), is-other _ _ (rest .1)) (k .right .ensures)
 
 pub numbers-spec : {M : Type 1} → statement M
 numbers-spec =
     tie.close
-    (tie.spec (λ c κs. tt) (λ c κs. tt) (λ c κs. tt) (λ c κs. tt) (λ c κs. tt) (λ c κs. tt) (λ c κs. tt) (λ c. omega arith) returns
-    (λ c. omega arith) returns-2 (λ c. omega arith) returns-3 (λ c. omega arith) returns-4 (λ c. omega arith) returns-5)
+    (tie.spec (λ c κs. tt) (λ c κs. tt) (λ c κs. tt) (λ c κs. tt) (λ c κs. tt) (λ c κs. tt) (λ c κs. tt) (λ c κs. tt) (λ c. omega arith) returns
+    (λ c. omega arith) returns-2 (λ c. omega arith) returns-3 (λ c. omega arith) returns-4 (λ c. omega arith) returns-5 (λ c. omega arith) returns-6)

@@ -15,5 +15,10 @@ rule-8-spec =
     (λ c κs. tt)
     (λ c κs. tt)
     (λ c κs. tt)
+    (λ c κs. tt)
     (λ c. omega arith)
-    (λ c. simp (c .parties-of .ensures, c .before .pair .ensures, c .before .before .sender .ensures, c .before .before .before .eic-valid2 .ensures, c .before .before .before .before .out-party .ensures, c .before .before .before .before .before .eic-valid .ensures, c .before .before .before .before .before .before .in-party .ensures)))
+    (λ c.
+    let x = c .before .before .before in
+    let o = x .before in
+    let i = o .before .before in
+    simp (c .parties-of .ensures, c .before .pair .ensures, c .before .before .sender .ensures, x .is-external .ensures, o .eic-valid2 .ensures, o .before .out-party .ensures, i .eic-valid .ensures, i .before .in-party .ensures)))

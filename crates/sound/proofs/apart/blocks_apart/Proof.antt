@@ -7,10 +7,10 @@ use Rattle.sound.proofs.apart.blocks_apart.Statement.{statement}
 use Rattle.sound.proofs.apart.blocks_apart.Tie as tie
 
 abbrev Inv-loop : tie.InvT-loop
-Inv-loop us nexts ids pairs blocks ok₀ i₀ ok i = apart clashes (cut 512 us) ≡ (ok and apart clashes (drop i (cut 512 us)))
+Inv-loop us nexts ids keys blocks ok₀ i₀ ok i = apart clashes (cut 512 us) ≡ (ok and apart clashes (drop i (cut 512 us)))
 
 abbrev μ-loop : tie.MeasureT-loop
-μ-loop us nexts ids pairs blocks ok₀ i₀ ok i = length us / 512 - i
+μ-loop us nexts ids keys blocks ok₀ i₀ ok i = length us / 512 - i
 
 loop-again : tie.Need-loop-again Inv-loop μ-loop
 loop-again c = apart-go _ _ (c .before .before .loop .inv) (step-cut-at _ _ _ (c .before .loop-test .taken)) (c .clear-of-later .ensures)

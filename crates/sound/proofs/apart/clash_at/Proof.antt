@@ -1,4 +1,4 @@
--- Where both tags differ, neither the ids nor the pairs nor the senders' EICs are the same.
+-- Where both tags differ, neither the ids nor the keys nor the senders' EICs are the same, and no two rights alike.
 use Rattle.laws.specs.Kit.{needs, _∙_, ap₂}
 use Rattle.sound.specs.Used.{clashes}
 use Rattle.sound.proofs.Laws.Tags.{tags-apart}

@@ -6,7 +6,7 @@ use Rattle.sound.proofs.apart.clashes.Tie as tie
 
 returns : tie.Need-returns
 unfolding clashes _or_
-returns c = simp (c .same-series .ensures, c .before .same-sender .ensures)
+returns c = simp (c .same-right .ensures, c .before .same-series .ensures, c .before .before .same-sender .ensures)
 
 pub clashes-spec : {M : Type 1} → statement M
-clashes-spec = tie.close (tie.spec (λ c κs. search needs) (λ c κs. search needs) returns)
+clashes-spec = tie.close (tie.spec (λ c κs. search needs) (λ c κs. search needs) (λ c κs. search needs) returns)

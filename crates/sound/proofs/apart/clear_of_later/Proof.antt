@@ -9,11 +9,11 @@ use Rattle.sound.proofs.apart.clear_of_later.Statement.{statement}
 use Rattle.sound.proofs.apart.clear_of_later.Tie as tie
 
 abbrev Inv-loop : tie.InvT-loop
-Inv-loop us nexts ids pairs i at₀ at =
+Inv-loop us nexts ids keys i at₀ at =
     Walk (inGroup (group (getD (cut 512 us) i []))) (clear (getD (cut 512 us) i [])) true (cut 512 us) (clear (getD (cut 512 us) i []) (i + 1) (drop (i + 1) (cut 512 us))) at
 
 abbrev μ-loop : tie.MeasureT-loop
-μ-loop us nexts ids pairs i at₀ at = left at
+μ-loop us nexts ids keys i at₀ at = left at
 
 loop-holds : tie.Need-loop-holds Inv-loop μ-loop
 loop-holds c =

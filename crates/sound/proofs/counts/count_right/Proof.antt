@@ -15,7 +15,7 @@ returns-2 c =
     let t = c .before .before .before .before in
     let e = t .before in
     let p = e .before .before .before .pre in
-    rw (own-count _ _ (p .2) (p .3) (rw (e .before .block-at .ensures) at (told (e .is-sender .ensures) (t .if1 .left)))) (simp (c .count-of .ensures, c .before .series-count2 .ensures, c .before .before .count-allowed .ensures, c .before .before .before .series-count .ensures, e .before .block-at .ensures))
+    rw (own-count _ _ (p .0) (p .2) (p .3) (rw (e .before .block-at .ensures) at (told (e .is-sender .ensures) (t .if1 .left)))) (simp (c .count-of .ensures, c .before .series-count2 .ensures, c .before .before .count-allowed .ensures, c .before .before .before .series-count .ensures, e .before .block-at .ensures))
 
 pub count-right-spec : {M : Type 1} → statement M
 count-right-spec =

@@ -1,4 +1,4 @@
--- The tag is the check of the bytes that the definition chooses.
+-- The tag is that of the bytes that the definition chooses.
 use Rattle.laws.specs.Kit.{needs, sym, ap, _∙_}
 use Rattle.index.specs.Tags.{tagOf}
 use Rattle.sound.specs.Links.{idTag}
@@ -11,9 +11,9 @@ returns c = rw (sym (c .before .before .before .is-series .ensures) ∙ c .befor
 
 returns-2 : tie.Need-returns-2
 unfolding idTag
-returns-2 c = rw (sym (c .before .before .before .is-series .ensures) ∙ c .before .before .if1 .left) (c .tag-of2 .ensures ∙ ap tagOf (c .before .sender .ensures))
+returns-2 c = rw (sym (c .before .before .is-series .ensures) ∙ c .before .if1 .left) (c .key-tag .ensures)
 
 pub id-tag-spec : {M : Type 1} → statement M
 id-tag-spec =
     tie.close
-    (tie.spec (λ c κs. search needs) (λ c κs. search needs) (λ c κs. search needs) returns (λ c κs. search needs) (λ c κs. search needs) returns-2)
+    (tie.spec (λ c κs. search needs) (λ c κs. search needs) (λ c κs. search needs) returns (λ c κs. search needs) returns-2)

@@ -7,10 +7,10 @@ use Rattle.sound.proofs.links.tag.Statement.{statement}
 use Rattle.sound.proofs.links.tag.Tie as tie
 
 abbrev Inv-loop : tie.InvT-loop
-Inv-loop us ids₀ pairs₀ blocks i₀ ids pairs i = (i ≤ length us / 512) × Tags (cut 512 us) i ids pairs × (length ids ≡ 1000) × (length pairs ≡ 1000)
+Inv-loop us ids₀ keys₀ blocks i₀ ids keys i = (i ≤ length us / 512) × Tags (cut 512 us) i ids keys × (length ids ≡ 1000) × (length keys ≡ 1000)
 
 abbrev μ-loop : tie.MeasureT-loop
-μ-loop us ids₀ pairs₀ blocks i₀ ids pairs i = length us / 512 - i
+μ-loop us ids₀ keys₀ blocks i₀ ids keys i = length us / 512 - i
 
 loop-holds : tie.Need-loop-holds Inv-loop μ-loop
 loop-holds c =
@@ -20,7 +20,7 @@ loop-holds c =
 loop-again : tie.Need-loop-again Inv-loop μ-loop
 loop-again c =
     let b = c .before .before in
-    (omega arith, tags-more _ _ _ _ (omega arith) (omega arith) (b .block-at .ensures) (c .before .id-tag .ensures) (c .pair-tag .ensures) (b .before .before .loop .inv .1), search needs, search needs)
+    (omega arith, tags-more _ _ _ _ (omega arith) (omega arith) (b .block-at .ensures) (c .before .id-tag .ensures) (c .key-tag .ensures) (b .before .before .loop .inv .1), search needs, search needs)
 
 pub tag-spec : {M : Type 1} → statement M
 tag-spec =

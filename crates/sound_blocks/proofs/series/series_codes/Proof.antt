@@ -8,20 +8,15 @@ returns : tie.Need-returns
 unfolding seriesCodes _and_
 returns c =
     simp (
-      c .all-zero .ensures,
-      c .before .agreement .ensures,
-      c .before .before .eic-valid2 .ensures,
-      c .before .before .before .out-party .ensures,
-      c .before .before .before .before .eic-valid .ensures,
-      c .before .before .before .before .before .in-party .ensures,
-      c .before .before .before .before .before .before .same2 .ensures,
-      c .before .before .before .before .before .before .before .out-area .ensures,
-      c .before .before .before .before .before .before .before .before .same .ensures,
-      c .before .before .before .before .before .before .before .before .before .in-area .ensures,
-      c .before .before .before .before .before .before .before .before .before .before .area .ensures,
+      c .eic-valid2 .ensures,
+      c .before .out-party .ensures,
+      c .before .before .eic-valid .ensures,
+      c .before .before .before .in-party .ensures,
+      c .before .before .before .before .areas-allowed .ensures,
+      c .before .before .before .before .before .area .ensures,
     )
 
 pub series-codes-spec : {M : Type 1} → statement M
 series-codes-spec =
     tie.close
-    (tie.spec (λ c κs. search needs) (λ c κs. search needs) (λ c κs. search needs) (λ c κs. search needs) (λ c κs. search needs) (λ c κs. search needs) (λ c κs. search needs) (λ c κs. search needs) (λ c κs. search needs) (λ c κs. search needs) (λ c κs. search needs) returns)
+    (tie.spec (λ c κs. search needs) (λ c κs. search needs) (λ c κs. search needs) (λ c κs. search needs) (λ c κs. search needs) (λ c κs. search needs) returns)

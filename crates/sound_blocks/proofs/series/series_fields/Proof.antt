@@ -10,8 +10,8 @@ returns c =
     simp (
       c .id-well-formed .ensures,
       c .before .id-of .ensures,
-      c .before .before .contract-type .ensures,
-      c .before .before .before .business-type .ensures,
+      c .before .before .capacity-allowed .ensures,
+      c .before .before .before .type-allowed .ensures,
       c .before .before .before .before .version-allowed .ensures,
       c .before .before .before .before .before .version .ensures,
       c .before .before .before .before .before .before .n-of2 .ensures,
