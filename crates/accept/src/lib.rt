@@ -16,13 +16,12 @@ ghost use Rattle.index.specs.Handed.{Handed};
 ghost use Rattle.accept.specs.Fits.{Placing, Fits};
 ghost use Rattle.accept.specs.Steps.{acceptedOver};
 use adding::add_blocks;
-use block::numbers::write_bytes;
-use layout::area;
 use layout::n_of;
 use paper::Slot;
 use remarking::remark_all;
 use renewal::kept_sender;
 use renewal::renew_all;
+use slots::area_of;
 
 pub mod adding;
 pub mod looking;
@@ -67,16 +66,6 @@ fn accept_into(
     renew_all(&mut slots[..used_end], &kept, series, Slot(slot), numbers);
     let end = 512 * next;
     remark_all(&mut slots[..end], standing.n, series, Slot(slot))
-}
-
-// The area out of the day block, which cannot be read while the slots behind it are lent to be written.
-fn area_of(book: &[u8]) -> [u8; 16]
-    requires { ⌜ 512 ≤ length (now book) ⌝ }
-    ensures { λ r. ⌜ r ≡ area (dayBlock (now (book .entry))) ⌝ }
-{
-    let mut ours = [0u8; 16];
-    write_bytes(&mut ours, 0, area(book));
-    ours
 }
 
 // Called where the verdict is 0, which gives `Fits`: so nothing is written before rules 16 and 17 are passed. What the judgement has found is handed

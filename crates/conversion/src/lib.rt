@@ -5,34 +5,22 @@ ghost use Prim.Native.Nat.{_+_, _*_, _/_, _≤_};
 ghost use lib.ListN.{length, getD, set};
 ghost use Rattle.laws.specs.Cut.{cut};
 ghost use Rattle.paper.specs.Layout.{area};
-ghost use Rattle.paper.specs.Book.{dayBlock};
 ghost use Rattle.paper.specs.Conversion.{conversionNumber, convertedBlock, usedConverted, converted};
 ghost use Rattle.index.specs.Linked.{seriesIn, Links};
-use block::numbers::write_bytes;
 use index::link_series;
 use index::no_heads;
 use index::no_nexts;
-use layout::area;
 use layout::n_of;
 use layout::write::write_mark;
 use marks::mark_in;
 use nets::own_nets;
 use nets::put_nets;
+use slots::area_of;
 use slots::block_at;
 use slots::is_sender;
 use slots::is_series;
 use slots::used_count;
 use sound::old_sound;
-
-// The area out of the day block, which cannot be read while the slots behind it are lent to be written.
-fn area_of(book: &[u8]) -> [u8; 16]
-    requires { ⌜ 512 ≤ length (now book) ⌝ }
-    ensures { λ r. ⌜ r ≡ area (dayBlock (now (book .entry))) ⌝ }
-{
-    let mut ours = [0u8; 16];
-    write_bytes(&mut ours, 0, area(book));
-    ours
-}
 
 // A sender's nets or a series' mark, as the plain run would work them out; `ours` is the day block's area. A right has neither.
 fn convert_block(

@@ -1,11 +1,9 @@
 -- A sound book is full where its used slots reach its end; the numbers of an entering in their order, and the book as it leaves it, from what the code finds.
-use Rattle.laws.specs.Kit.{_≡_, sym, ap, _∙_, Bool, true, false, cond, List, ℕ, _+_, _-_, _*_, _/_, _%_, _≤_, arith, length, take, drop, _or_, neg, is, split, is-yes, is-no, is-equal, is-other, neg-true}
-use Rattle.laws.specs.Lists.{place, has, until}
+use Rattle.laws.specs.Kit.{_≡_, sym, ap, _∙_, Bool, true, false, cond, List, ℕ, _+_, _-_, _*_, _/_, _%_, _≤_, arith, length, _or_, neg, is, split, is-yes, is-no, is-equal, is-other, neg-true}
+use Rattle.laws.specs.Lists.{place, has}
 use Rattle.laws.specs.Lists.Search.{place-is-not-0}
 use Rattle.laws.specs.Lists.Keep.{until-length, count-until}
 use Rattle.laws.specs.Bytes.{part, written}
-use Rattle.laws.specs.Slices.{rest-slice}
-use Rattle.laws.specs.Cut.{cut}
 use Rattle.paper.specs.Layout.{Bytes, Block, nOf}
 use Rattle.paper.specs.Book.{dayBlock, slots, isFree, used, freeSlots}
 use Rattle.paper.specs.Sound.{sound, sameRight}
@@ -18,12 +16,6 @@ use Rattle.facts.specs.Rights.{enters, entering-refused}
 
 pub has-placed : (p : Block → Bool) (l : List Block) (i : ℕ) → i + 1 ≡ place p l → true ≡ has p l
 has-placed p l i e = sym (neg-true _ (is-other (place p l) 0 (λ z. omega (arith, e)))) ∙ place-is-not-0 p l
-
--- ---- the used slots, counted behind the day block
-
-pub used-counted : (book : Bytes) (u : ℕ) → u ≡ length (until isFree (cut 512 (take (length book - 512) (drop 512 book)))) → u ≡ length (used book)
-unfolding used slots
-used-counted book u e = rw (rest-slice 512 book) at e
 
 -- ---- a sound book
 

@@ -12,10 +12,9 @@ ghost use Rattle.paper.specs.Rights.{rightAllowed, enterNumber, entered};
 use block::check::check_right;
 use block::numbers::write_bytes;
 use field::part_of;
-use field::same;
-use layout::but_limits;
 use slots::block_at;
 use slots::is_right;
+use slots::same_right;
 use slots::used_count;
 use slots::used_part;
 use sound::sound;
@@ -30,13 +29,6 @@ fn right_allowed(day: &[u8], block: &[u8]) -> bool
         return false;
     }
     check_right(block) & is_right(block) & right_sound(day, block)
-}
-
-// The limits are not compared: a second right of the same name would leave open which limit holds.
-fn same_right(a: &[u8], b: &[u8]) -> bool
-    ensures { λ r. ⌜ r ≡ sameRight (now (a .entry)) (now (b .entry)) ⌝ }
-{
-    is_right(a) & is_right(b) & same(but_limits(a), but_limits(b))
 }
 
 // Rights may stand in any used slot.

@@ -1,14 +1,14 @@
 -- What a series is paired by: a trade by its two parties, an external schedule by nothing. A search among the series of one slot by a test that the key decides, and a search for counterparts,
 -- see kind, sender's slot and key alone; so a change of a block that leaves these three leaves what is found.
-use Rattle.laws.specs.Base.{_≡_, refl, sym, ap, ap₂, _∙_, Bool, true, false, false≢true, cond, Option, none, some, Option·map, List, ℕ}
-use Rattle.laws.specs.Tests.{_and_, neg, is}
+use Rattle.laws.specs.Base.{_≡_, refl, sym, ap, ap₂, _∙_, Bool, true, false, false≢true, Option, none, some, Option·map, List, ℕ}
+use Rattle.laws.specs.Tests.{_and_, is}
 use Rattle.laws.specs.Tests.Laws.{split, clash, and-left, and-right, and-both, and-no-left, and-no-right, or-right, neg-yes, neg-true, is-no, is-other}
 use Rattle.laws.specs.Lists.{same, find, has, apart, All}
 use Rattle.laws.specs.Lists.Each.{all-each}
 use Rattle.laws.specs.Lists.Search.{all-has-no}
 use Rattle.laws.specs.Lists.Same.{same-yes, same-equal, same-no}
 use Rattle.laws.specs.Lists.Apart.{apart-imply}
-use Rattle.paper.specs.Layout.{Bytes, Block, idOf, sendersSlot, pair, key, quantities}
+use Rattle.paper.specs.Layout.{Bytes, Block, sendersSlot, pair, key, quantities}
 use Rattle.paper.specs.Book.{isSeries, isTrade, keyIs, trade, tradeIs, slotOf, isSeriesOf, isSeriesWith, isTradeOf}
 use Rattle.paper.specs.Marks.{isCounterpart}
 use Rattle.paper.specs.Finals.{held}
@@ -55,6 +55,10 @@ trade-is-none t b i = split (tradeIs t b) (λ u. clash (trade-is-trade t b u) i)
 pub trade-none : (b c : Block) → isTrade b ≡ false → tradeIs (trade b) c ≡ false
 unfolding tradeIs
 trade-none b c i = rw (trade-external b i)
+
+-- who is paired with a series has its parties
+pub trade-pair : (a b : Block) → tradeIs (trade a) b ≡ true → pair b ≡ pair a
+trade-pair a b e = split (isTrade a) (λ t. trade-is-pair (pair a) b (rw (trade-domestic a t) at e)) (λ t. clash e (trade-none a b t))
 
 -- a trades with b as b with a
 pub trade-swap : (a b : Block) → tradeIs (trade a) b ≡ tradeIs (trade b) a

@@ -13,12 +13,6 @@ use Rattle.layout.specs.declared.write.Field.{Field}
 unfoldable pub withFront : (kind n number : ℕ) → Block → Block
 withFront kind n number b = written 2 (little 2 number) (set (set b 0 kind) 1 n)
 
-unfoldable pub withN : ℕ → Block → Block
-withN n b = set b 1 n
-
-unfoldable pub withVersion : ℕ → Block → Block
-withVersion version b = written 2 (little 2 version) b
-
 unfoldable pub withSeriesCount : ℕ → Block → Block
 withSeriesCount count s = written 4 (little 2 count) s
 

@@ -4,7 +4,7 @@ ghost use mathlib.Core.Path.{_≡_};
 ghost use Prim.Native.Nat.{_+_, _<_, _≤_};
 ghost use lib.ListN.{length};
 ghost use Rattle.paper.specs.Layout.{withClock, withSendersSlot, withMark};
-ghost use Rattle.layout.specs.Written.{withFront, withDayFields, withN, withVersion, withSeriesCount, withBusinessType, withField, withQuantity, withEntries};
+ghost use Rattle.layout.specs.Written.{withFront, withDayFields, withSeriesCount, withBusinessType, withField, withQuantity, withEntries};
 use block::check::seal;
 use block::numbers::byte_or_zero;
 use block::numbers::put_byte;
@@ -72,18 +72,6 @@ pub fn write_mark(x: &mut [u8], m: &[u8])
 
 // ---- a message's blocks
 
-pub fn write_n(b: &mut [u8], n: u8)
-    ensures { λ _. ⌜ now (b .exit) ≡ withN n (now (b .entry)) ⌝ }
-{
-    put_byte(b, 1, n);
-}
-
-pub fn write_version(b: &mut [u8], version: u16)
-    ensures { λ _. ⌜ now (b .exit) ≡ withVersion version (now (b .entry)) ⌝ }
-{
-    write_2(b, 2, version);
-}
-
 pub fn write_series_count(s: &mut [u8], count: u16)
     ensures { λ _. ⌜ now (s .exit) ≡ withSeriesCount count (now (s .entry)) ⌝ }
 {
@@ -103,20 +91,6 @@ pub struct Field {
 }
 
 pub const ID: Field = Field { at: 8, width: 16 };
-
-pub const SENDER: Field = Field { at: 24, width: 16 };
-
-pub const RECEIVER: Field = Field { at: 40, width: 16 };
-
-pub const DAY: Field = Field { at: 56, width: 8 };
-
-pub const IN_AREA: Field = Field { at: 24, width: 16 };
-
-pub const OUT_AREA: Field = Field { at: 40, width: 16 };
-
-pub const IN_PARTY: Field = Field { at: 56, width: 16 };
-
-pub const OUT_PARTY: Field = Field { at: 72, width: 16 };
 
 // The bytes v, then zero bytes up to the field's end; of a v that is longer what the field takes.
 pub fn write_field(b: &mut [u8], field: Field, v: &[u8])

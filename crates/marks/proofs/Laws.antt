@@ -6,18 +6,15 @@ use Rattle.laws.specs.Lists.Each.{all-each}
 use Rattle.laws.specs.Lists.Search.{all-has-no, has-no-find, has-no-place, place-none, place-find}
 use Rattle.laws.specs.Bytes.{little}
 use Rattle.paper.specs.Layout.{Bytes, Block, sendersSlot, pair, quantities, entry, quantity}
-use Rattle.paper.specs.Book.{numbered, isTrade, trade, tradeIs}
+use Rattle.paper.specs.Book.{numbered, isTrade, trade}
 use Rattle.paper.specs.Marks.{isCounterpart, counterpart, counterpartSlot, differenceFrom, firstDifference, differences, markOf, markIn}
 use Rattle.facts.specs.Layout.{entry-quantities}
-use Rattle.facts.specs.Pairs.{trade-domestic, trade-is-pair, trade-none, counterpart-series, counterpart-trade}
+use Rattle.facts.specs.Pairs.{trade-none, trade-pair, counterpart-series, counterpart-trade}
 use Rattle.facts.specs.Marks.{Agree, differences-most, first-most, agree-no-differences, agree-no-difference, first-where-equal, first-where-other, differences-where-equal, differences-where-other}
 use Rattle.index.specs.Linked.{bucket, seriesIn}
 use Rattle.slots.proofs.Laws.{numbered-some}
 
 -- ---- the bucket of a counterpart
-
-trade-pair : (x y : Block) → tradeIs (trade x) y ≡ true → pair y ≡ pair x
-trade-pair x y e = split (isTrade x) (λ t. trade-is-pair (pair x) y (rw (trade-domestic x t) at e)) (λ t. clash e (trade-none x y t))
 
 pub counterpart-linked : (slot : ℕ) (x y : Block) → isCounterpart slot (trade x) y ≡ true → seriesIn (bucket (pair x)) y ≡ true
 unfolding seriesIn

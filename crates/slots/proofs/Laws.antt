@@ -1,4 +1,4 @@
--- Blocks by number, a free block, two series compared, and the used slots as a part of a book's bytes, as the code finds them.
+-- Blocks by number, a free block, two series compared, the used slots as a part of a book's bytes, and the area within the day block, as the code finds them.
 pub mod Lent
 use Rattle.laws.specs.Kit.{_≡_, refl, sym, ap, _∙_, Bool, true, false, not, List, [], _∷_, ℕ, zero, suc, _+_, _-_, _*_, _/_, _≤_, _<_, add-sub-cancel-left, arith, length, take, drop, getD, List·getD-eq-default, drop-of-length-le, drop-drop, take-take, _and_, is, split, told, denied, is-yes}
 use Rattle.laws.specs.Lists.{same, every, until}
@@ -6,12 +6,12 @@ use Rattle.laws.specs.Lists.Keep.{until-take, until-length}
 use Rattle.laws.specs.Lists.Each.{drop-take}
 use Rattle.laws.specs.Lists.Same.{same-split}
 use Rattle.laws.specs.Bytes.{part}
-use Rattle.laws.specs.Bytes.Laws.{number-1}
+use Rattle.laws.specs.Bytes.Laws.{number-1, part-length, part-take}
 use Rattle.laws.specs.Slices.{rest-slice}
 use Rattle.laws.specs.Cut.{cut, block}
 use Rattle.laws.specs.Cut.Laws.{cut-length, cut-at, cut-short, take-cut}
-use Rattle.paper.specs.Layout.{Bytes, Block, zeros, kind, pair, key}
-use Rattle.paper.specs.Book.{numbered, slots, isFree, used, isTrade, trade, tradeIs}
+use Rattle.paper.specs.Layout.{Bytes, Block, zeros, kind, area, pair, key}
+use Rattle.paper.specs.Book.{dayBlock, numbered, slots, isFree, used, isTrade, trade, tradeIs}
 use Rattle.facts.specs.Keys.{key-same}
 
 -- a block passes a test as the code found it, x being that block
@@ -93,3 +93,13 @@ used-some book u e =
     let q : u ≡ length (until isFree (cut 512 s)) = e ∙ ap (λ b. length (until isFree (cut 512 b))) (rest-slice 512 book) in
     let h : u ≤ length s / 512 = omega (arith, until-length isFree (cut 512 s), cut-length 512 s) in
     ap (λ b. cut 512 (take (512 * u) b)) (rest-slice 512 book) ∙ take-cut 512 s u h ∙ until-take isFree (cut 512 s) u q
+
+pub used-counted : (book : Bytes) (u : ℕ) → u ≡ length (until isFree (cut 512 (take (length book - 512) (drop 512 book)))) → u ≡ length (used book)
+unfolding used slots
+used-counted book u e = rw (rest-slice 512 book) at e
+
+-- ---- the area, read of the whole book
+
+pub area-read : (b a : Bytes) → 512 ≤ length b → a ≡ area b → (a ≡ area (dayBlock b)) × (length a ≡ 16)
+unfolding area dayBlock
+area-read b a h e = (e ∙ sym (part-take 24 16 512 b (omega arith)), ap length e ∙ part-length 24 16 b (omega arith))

@@ -6,12 +6,16 @@ ghost use Prim.Native.Nat.{_*_, _-_, _≤_};
 ghost use lib.ListN.{length, getD};
 ghost use Rattle.laws.specs.Lists.{same, until};
 ghost use Rattle.laws.specs.Cut.{cut};
-ghost use Rattle.paper.specs.Layout.{key};
-ghost use Rattle.paper.specs.Book.{isFree, used, isSender, isSeries, isRight, isTrade, withCapacity, isExternal, trade, tradeIs, numbered, isSenderBlockOf, slotOf, isSeriesOf, isRightOf};
+ghost use Rattle.paper.specs.Layout.{area, key};
+ghost use Rattle.paper.specs.Book.{dayBlock, isFree, used, isSender, isSeries, isRight, isTrade, withCapacity, isExternal, trade, tradeIs, numbered, isSenderBlockOf, slotOf, isSeriesOf, isRightOf};
+ghost use Rattle.paper.specs.Sound.{sameRight};
+use block::numbers::write_bytes;
 use field::all_zero;
 use field::same;
+use layout::area;
 use layout::areas;
 use layout::business_type;
+use layout::but_limits;
 use layout::holder;
 use layout::kind;
 use layout::pair;
@@ -99,6 +103,13 @@ pub fn same_trade(a: &[u8], b: &[u8]) -> bool
     is_trade(a) & is_trade(b) & same(pair(b), pair(a))
 }
 
+// Two rights alike in all but limits: a second right of the same name would leave open which limit holds.
+pub fn same_right(a: &[u8], b: &[u8]) -> bool
+    ensures { λ r. ⌜ r ≡ sameRight (now (a .entry)) (now (b .entry)) ⌝ }
+{
+    is_right(a) & is_right(b) & same(but_limits(a), but_limits(b))
+}
+
 pub fn is_series_of(b: &[u8], slot: Slot) -> bool
     ensures { λ r. ⌜ r ≡ isSeriesOf (slot .0) (now (b .entry)) ⌝ }
 {
@@ -166,4 +177,14 @@ pub fn slot_of(us: &[u8], e: &[u8]) -> Slot
         i += 1;
     }
     Slot(0)
+}
+
+// The area out of the day block, which cannot be read while the slots behind it are lent to be written.
+pub fn area_of(book: &[u8]) -> [u8; 16]
+    requires { ⌜ 512 ≤ length (now book) ⌝ }
+    ensures { λ r. ⌜ r ≡ area (dayBlock (now (book .entry))) ⌝ }
+{
+    let mut ours = [0u8; 16];
+    write_bytes(&mut ours, 0, area(book));
+    ours
 }

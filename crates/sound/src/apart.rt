@@ -6,21 +6,21 @@ ghost use lib.ListN.{length, drop, getD};
 ghost use Rattle.laws.specs.Tests.{neg};
 ghost use Rattle.laws.specs.Lists.{every, apart};
 ghost use Rattle.laws.specs.Cut.{cut};
-ghost use Rattle.paper.specs.Sound.{sameSender, sameSeries, sameRight};
+ghost use Rattle.paper.specs.Sound.{sameSender, sameSeries};
 ghost use Rattle.index.specs.Linked.{Nexts};
+ghost use Rattle.index.specs.Linked.Laws.{left};
 ghost use Rattle.sound.specs.Used.{clashes};
-ghost use Rattle.sound.specs.Links.{inGroup, Tags};
+ghost use Rattle.sound.specs.Links.{inGroup, Tags, Ahead};
 use field::same;
 use index::wide;
-use layout::but_limits;
 use layout::id_of;
 use layout::sender;
 use layout::senders_slot;
 use slots::block_at;
-use slots::is_right;
 use slots::is_sender;
 use slots::is_series;
 use slots::same_key;
+use slots::same_right;
 
 fn same_sender(a: &[u8], b: &[u8]) -> bool
     ensures { λ r. ⌜ r ≡ sameSender (now (a .entry)) (now (b .entry)) ⌝ }
@@ -37,28 +37,33 @@ fn same_series(a: &[u8], b: &[u8]) -> bool
         & (same(id_of(a), id_of(b)) | same_key(a, b))
 }
 
-// A right is entered once: another is not to be like it in all but limits.
-fn same_right(a: &[u8], b: &[u8]) -> bool
-    ensures { λ r. ⌜ r ≡ sameRight (now (a .entry)) (now (b .entry)) ⌝ }
-{
-    is_right(a) & is_right(b) & same(but_limits(a), but_limits(b))
-}
-
 fn clashes(a: &[u8], b: &[u8]) -> bool
     ensures { λ r. ⌜ r ≡ clashes (now (a .entry)) (now (b .entry)) ⌝ }
 {
     same_sender(a, b) | same_series(a, b) | same_right(a, b)
 }
 
-// The tags tell nearly all blocks apart.
-fn clash_at(us: &[u8], ids: &[u32; 1000], keys: &[u32; 1000], i: usize, j: usize) -> bool
-    requires { ⌜ (length (now us) / 512 ≤ 1000) × Tags (cut 512 (now us)) (length (now us) / 512) (now ids) (now keys) × (i < length (now us) / 512) × (j < length (now us) / 512) ⌝ }
-    ensures { λ r. ⌜ r ≡ clashes (getD (cut 512 (now (us .entry))) i []) (getD (cut 512 (now (us .entry))) j []) ⌝ }
+// From one block of a group on, the first whose id or key could be that of block i by its tag; 0 where there is none. Tags tell nearly all blocks apart,
+// so that this walk over all pairs of a group does nothing but compare them.
+fn next_alike(
+    us: &[u8],
+    nexts: &[u16; 1000],
+    ids: &[u32; 1000],
+    keys: &[u32; 1000],
+    i: usize,
+    from: usize,
+) -> usize
+    requires { ⌜ (length (now us) / 512 ≤ 1000) × Nexts inGroup (cut 512 (now us)) 0 (now nexts) × Tags (cut 512 (now us)) (length (now us) / 512) (now ids) (now keys) × (i < length (now us) / 512) × Ahead (cut 512 (now us)) i from ⌝ }
+    ensures { λ r. ⌜ Ahead (cut 512 (now (us .entry))) i r × (left r ≤ left from) ⌝ }
 {
-    if (ids[i] != ids[j]) & (keys[i] != keys[j]) {
-        return false;
+    let mut at = from;
+    while at != 0 {
+        if (ids[i] == ids[at - 1]) | (keys[i] == keys[at - 1]) {
+            return at;
+        }
+        at = wide(nexts[at - 1]);
     }
-    clashes(block_at(us, i), block_at(us, j))
+    at
 }
 
 // Block i clashes with none behind it: only those of its own group could.
@@ -72,12 +77,12 @@ fn clear_of_later(
     requires { ⌜ (length (now us) / 512 ≤ 1000) × Nexts inGroup (cut 512 (now us)) 0 (now nexts) × Tags (cut 512 (now us)) (length (now us) / 512) (now ids) (now keys) × (i < length (now us) / 512) ⌝ }
     ensures { λ r. ⌜ r ≡ every (λ y. neg (clashes (getD (cut 512 (now (us .entry))) i []) y)) (drop (i + 1) (cut 512 (now (us .entry)))) ⌝ }
 {
-    let mut at = wide(nexts[i]);
+    let mut at = next_alike(us, nexts, ids, keys, i, wide(nexts[i]));
     while at != 0 {
-        if clash_at(us, ids, keys, i, at - 1) {
+        if clashes(block_at(us, i), block_at(us, at - 1)) {
             return false;
         }
-        at = wide(nexts[at - 1]);
+        at = next_alike(us, nexts, ids, keys, i, wide(nexts[at - 1]));
     }
     true
 }

@@ -44,13 +44,15 @@ fn key_tag(b: &[u8]) -> u32
     wide_tag(b)
 }
 
-fn id_tag(b: &[u8]) -> u32
+// The tag of its key is handed in: only a series has an id beside it.
+fn id_tag(b: &[u8], key: u32) -> u32
+    requires { ⌜ key ≡ keyTag (now b) ⌝ }
     ensures { λ r. ⌜ r ≡ idTag (now (b .entry)) ⌝ }
 {
     if is_series(b) {
         return tag_of(id_of(b));
     }
-    key_tag(b)
+    key
 }
 
 // The group of the block at i.
@@ -63,7 +65,7 @@ fn group_at(us: &[u8], i: usize) -> usize
         return senders_slot(b).0;
     }
     if is_right(b) {
-        return 1001 + (key_tag(b) % 23) as usize;
+        return 1001 + (wide_tag(b) % 23) as usize;
     }
     0
 }
@@ -97,8 +99,9 @@ pub fn tag(us: &[u8], ids: &mut [u32; 1000], keys: &mut [u32; 1000])
     let mut i = 0;
     while i < blocks {
         let b = block_at(us, i);
-        ids[i] = id_tag(b);
-        keys[i] = key_tag(b);
+        let key = key_tag(b);
+        ids[i] = id_tag(b, key);
+        keys[i] = key;
         i += 1;
     }
 }

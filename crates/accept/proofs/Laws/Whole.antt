@@ -2,7 +2,7 @@
 use Rattle.laws.specs.Kit.{_≡_, refl, sym, ap, _∙_, List, [], _++_, append-assoc, append-nil, ℕ, _+_, _-_, _*_, _/_, _%_, _≤_, arith, length, take, drop, length-take, length-drop, drop-of-length-le, drop-drop}
 use Rattle.laws.specs.Lists.{until}
 use Rattle.laws.specs.Bytes.{number, value}
-use Rattle.laws.specs.Bytes.Laws.{part-length, part-take}
+use Rattle.laws.specs.Bytes.Laws.{part-take}
 use Rattle.laws.specs.Slices.{rest-slice}
 use Rattle.laws.specs.Cut.{cut, join}
 use Rattle.laws.specs.Cut.Laws.{cut-drop, join-cut, join-append}
@@ -46,11 +46,6 @@ lent-looks b m ours o looked e = e ∙ rw (rest-slice 512 b, rest-slice 512 m, o
 
 pub slots-length : (b : Bytes) → length (take (length b - 512) (drop 512 b)) ≡ length b - 512
 slots-length b = ap length (rest-slice 512 b) ∙ length-drop 512 b
-
--- the area is read of the whole book
-pub area-read : (b a : Bytes) → 512 ≤ length b → a ≡ area b → (a ≡ area (dayBlock b)) × (length a ≡ 16)
-unfolding area dayBlock
-area-read b a h e = (e ∙ sym (part-take 24 16 512 b (omega arith)), ap length e ∙ part-length 24 16 b (omega arith))
 
 module _ (b m : Bytes) (f : Fits b m) where
   pub head-lent : (512 ≡ length (take 512 m)) × (512 ≤ length m)

@@ -2,7 +2,7 @@
 use Rattle.laws.specs.Kit.{_≡_, refl, sym, ap, ap₂, _∙_, true, false, _++_, append-assoc, ℕ, _+_, _-_, _*_, _/_, _≤_, arith, length, take, drop, length-take, length-drop, drop-drop, length-take-le, add-sub-cancel-left}
 use Rattle.laws.specs.Lists.{until}
 use Rattle.laws.specs.Bytes.{number, value}
-use Rattle.laws.specs.Bytes.Laws.{part-length, part-take}
+use Rattle.laws.specs.Bytes.Laws.{part-take}
 use Rattle.laws.specs.Slices.{rest-slice}
 use Rattle.laws.specs.Cut.{cut, join}
 use Rattle.laws.specs.Cut.Laws.{join-cut}
@@ -11,12 +11,7 @@ use Rattle.paper.specs.Book.{dayBlock, slots, isFree, used}
 use Rattle.paper.specs.Conversion.{oldSound, conversionNumber, usedConverted, converted}
 use Rattle.facts.specs.Sound.{Sound, sound-says, book-least, day-n}
 use Rattle.facts.specs.Conversion.{old-sound-is-sound, converts, conversion-refused}
-use Rattle.slots.proofs.Laws.{used-some}
-
--- the area is read of the whole book
-pub area-read : (b a : Bytes) → 512 ≤ length b → a ≡ area b → (a ≡ area (dayBlock b)) × (length a ≡ 16)
-unfolding area dayBlock
-area-read b a h e = (e ∙ sym (part-take 24 16 512 b (omega arith)), ap length e ∙ part-length 24 16 b (omega arith))
+use Rattle.slots.proofs.Laws.{used-some, used-counted}
 
 module _ (book : Bytes) where
   pub refused : oldSound book ≡ false → (_≡_ {A = ℕ} 1 (conversionNumber book)) × (book ≡ converted book)
@@ -62,10 +57,6 @@ module _ (book : Bytes) where
       used-lent : cut 512 (take (512 + 512 * u - 512) (drop 512 book)) ≡ used book
       used-lent = rw (add-sub-cancel-left) (ap (λ s. cut 512 (take (512 * u) s)) (sym (rest-slice 512 book)) ∙ used-some book u c)
 
-      used-counted : u ≡ length (used book)
-      unfolding used slots
-      used-counted = rw (rest-slice 512 book) at c
-
       pub book-converted : (n : ℕ) → n ≡ nOf book → (ours : Bytes) → ours ≡ area (dayBlock book) → (y : Bytes) → length y ≡ length (take (512 + 512 * u - 512) (drop 512 book)) → cut 512 y ≡ usedConverted n ours (cut 512 (take (512 + 512 * u - 512) (drop 512 book)))
           → take 512 book ++ (y ++ drop (512 + 512 * u - 512) (drop 512 book)) ≡ converted book
       unfolding dayBlock
@@ -74,7 +65,7 @@ module _ (book : Bytes) where
           sym (join-cut 512 u y (l ∙ lent-length u r)) ∙ ap join (f ∙ rw (n-day n q, o, used-lent) refl)
           in
           let s : drop (512 + 512 * u - 512) (drop 512 book) ≡ drop (512 + 512 * length (used book)) book =
-          rw (add-sub-cancel-left) (drop-drop (512 * u) 512 book) ∙ ap (λ k. drop (512 + 512 * k) book) used-counted
+          rw (add-sub-cancel-left) (drop-drop (512 * u) 512 book) ∙ ap (λ k. drop (512 + 512 * k) book) (used-counted book u c)
           in
           ap₂ (λ (a b : Bytes). take 512 book ++ (a ++ b)) p s
           ∙ sym (append-assoc (take 512 book) _ _) ∙ sym (converts book (sym passed) .result)

@@ -1,6 +1,6 @@
 -- The slots behind the day block are counted up to the first free one.
 use Rattle.laws.specs.Kit.{arith, ap, _+_, _*_, now}
-use Rattle.entering.proofs.Laws.{used-counted}
+use Rattle.slots.proofs.Laws.{used-counted}
 use Rattle.entering.proofs.first_free.Statement.{statement}
 use Rattle.entering.proofs.first_free.Tie as tie
 

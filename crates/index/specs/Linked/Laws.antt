@@ -17,8 +17,9 @@ use Rattle.laws.specs.Cut.Laws.{cut-length}
 use Rattle.laws.specs.Loops.{placeFrom, place-start, place-go, place-hit}
 use Rattle.laws.specs.Skips.{Skips, none-passes, first-passes, step-at}
 use Rattle.paper.specs.Layout.{Bytes, Block, zeros, pair}
-use Rattle.paper.specs.Book.{isSeries, isTrade, isSeriesOf, idIs, trade, tradeIs}
+use Rattle.paper.specs.Book.{isSeries, isSeriesOf, idIs}
 use Rattle.facts.specs.Keys.{key-is-yes, key-parties-agreement}
+use Rattle.facts.specs.Pairs.{trade-pair}
 use Rattle.index.specs.declared.By.{By}
 use Rattle.index.specs.declared.By.the-variants.{Id, Key, Trade}
 use Rattle.index.specs.Linked.{bucket, hashed, alike, ownIn, seriesIn, Heads, Nexts, Links, ownWith, FoundBy}
@@ -251,10 +252,6 @@ module _ (x : Block) where
   series-in e q g = rw (e, q)
 
 -- what is sought has the bucket of what it is sought by
-trade-pair : (y x : Block) → tradeIs (trade y) x ≡ true → pair x ≡ pair y
-unfolding trade tradeIs
-trade-pair y x e = split (isTrade y) (λ t. same-yes _ _ (and-right _ _ (rw t at e))) (λ t. clash (rw t at e) refl)
-
 alike-hashed : (by : By) (y x : Block) → alike by y x ≡ true → hashed by x ≡ hashed by y
 unfolding alike hashed idIs
 alike-hashed Id y x e = same-yes _ _ e

@@ -6,8 +6,8 @@ use Rattle.paper.specs.Sound.{sameSender, sameSeries, sameRight}
 use Rattle.facts.specs.Book.{sender-not-series, sender-not-right, right-not-series}
 use Rattle.laws.specs.Skips.{Skips, step-at}
 use Rattle.sound.specs.Used.{clashes}
-use Rattle.sound.specs.Links.{group, inGroup}
-use Rattle.sound.proofs.Laws.Tags.{right-tag}
+use Rattle.sound.specs.Links.{group, inGroup, clear}
+use Rattle.sound.proofs.Laws.Tags.{right-wide}
 
 pub own-group : (a : Block) → inGroup (group a) a ≡ true
 unfolding inGroup
@@ -29,25 +29,21 @@ clash-group a b e =
     let u = and-left _ _ r in
     let m = and-left _ _ u in
     let n = and-right _ _ u in
-    rw (right-not-series a m, right-not-series b n, m, n) (is-equal _ _ (ap (λ k. 1001 + k % 23) (sym (right-tag a b r))))))
+    rw (right-not-series a m, right-not-series b n, m, n) (is-equal _ _ (ap (λ k. 1001 + k % 23) (sym (right-wide a b r))))))
 
 module _ (a : Block) where
-  -- it clashes with none of some blocks
-  abbrev pub clear : ℕ → List Block → Bool
-  clear k r = every (λ y. neg (clashes a y)) r
-
-  pub clearing : Skips (inGroup (group a)) clear true
+  pub clearing : Skips (inGroup (group a)) (clear a) true
   unfolding every _and_
   clearing = record {
     skip = λ k x xs e. let n : neg (clashes a x) ≡ true = neg-true _ (split (clashes a x) (λ t. clash (clash-group a x t) e) (λ t. t)) in rw n;
     empty = λ k. refl;
   }
 
-  module _ (l : List Block) {k : ℕ} {w t : Bool} (e : w ≡ clear k (drop k l)) (h : k < length l) (q : t ≡ clashes a (getD l k [])) where
-    pub clear-go : t ≡ false → w ≡ clear (k + 1) (drop (k + 1) l)
+  module _ (l : List Block) {k : ℕ} {w t : Bool} (e : w ≡ clear a k (drop k l)) (h : k < length l) (q : t ≡ clashes a (getD l k [])) where
+    pub clear-go : t ≡ false → w ≡ clear a (k + 1) (drop (k + 1) l)
     unfolding every _and_ neg
-    clear-go f = e ∙ ap (clear k) (step-at [] l k h .rest) ∙ rw (sym q ∙ f)
+    clear-go f = e ∙ ap (clear a k) (step-at [] l k h .rest) ∙ rw (sym q ∙ f)
 
     pub clear-hit : t ≡ true → false ≡ w
     unfolding every _and_ neg
-    clear-hit f = sym (e ∙ ap (clear k) (step-at [] l k h .rest) ∙ rw (sym q ∙ f))
+    clear-hit f = sym (e ∙ ap (clear a k) (step-at [] l k h .rest) ∙ rw (sym q ∙ f))

@@ -11,7 +11,7 @@ use Rattle.paper.specs.Sound.{ownerSound, seriesSound}
 use Rattle.facts.specs.Book.{no-block-sender, series-not-sender, series-not-right, numbered-inside}
 use Rattle.laws.specs.Skips.{Skips, step-at}
 use Rattle.sound.specs.Used.{usedFields}
-use Rattle.sound.specs.Links.{keyTag, group, inGroup, Grouped}
+use Rattle.sound.specs.Links.{wideTag, group, inGroup, Grouped}
 
 -- a series names a sender's slot, one of at most 1,000
 block-grouped : (allowed : ℕ → ℕ → Bool) (d : Block) (us : List Block) (b : Block) → length us ≤ 1000 → usedFields allowed d us b ≡ true → group b < 1024
@@ -43,11 +43,11 @@ module _ (s : Bytes) (i : ℕ) {b : Block} {t : Bool} (e : b ≡ getD (cut 512 s
     no-series : isSeries (getD (cut 512 s) i []) ≡ false
     no-series = ap isSeries (sym e) ∙ sym q ∙ u
 
-    pub group-right : {k : ℕ} → r ≡ true → k ≡ keyTag b → (1001 + k % 23 ≡ group (getD (cut 512 s) i [])) × (1001 + k % 23 < 1024)
+    pub group-right : {k : ℕ} → r ≡ true → k ≡ wideTag b → (1001 + k % 23 ≡ group (getD (cut 512 s) i [])) × (1001 + k % 23 < 1024)
     unfolding group
     group-right {k} v w =
         let z : isRight (getD (cut 512 s) i []) ≡ true = ap isRight (sym e) ∙ sym p ∙ v in
-        (rw (no-series, z) (ap (λ j. 1001 + j % 23) (w ∙ ap keyTag e)), omega arith)
+        (rw (no-series, z) (ap (λ j. 1001 + j % 23) (w ∙ ap wideTag e)), omega arith)
 
     pub group-other : r ≡ false → 0 ≡ group (getD (cut 512 s) i [])
     unfolding group

@@ -1,6 +1,6 @@
 -- Two blocks whose tags both differ do not clash.
-use Rattle.laws.specs.Kit.{_≡_, sym, ap, _∙_, true, false, not, _&&_, List, [], ℕ, _+_, _≤_, _<_, arith, length, drop, getD, set, getD-set-same, getD-set-other, _and_, _or_, is, less, split, clash, and-left, and-right, or-no, or-else, or-yes-left, or-yes-right, is-equal, less-yes, less-no}
-use borrow.Author.Tests.{not-true}
+use Rattle.laws.specs.Kit.{_≡_, sym, ap, _∙_, true, false, List, [], ℕ, _+_, _≤_, _<_, arith, length, drop, getD, set, getD-set-same, getD-set-other, _and_, _or_, is, less, split, clash, and-left, and-right, or-no, or-else, or-yes-left, or-yes-right, is-equal, less-yes, less-no}
+use mathlib.Core.Bool.{_||_}
 use lib.Dec.{eqb}
 use Rattle.laws.specs.Lists.{same}
 use Rattle.laws.specs.Lists.Same.{same-yes}
@@ -33,13 +33,18 @@ tags-all s i m u v h k a = let e : i ≡ m = omega arith in rw e at a
 
 -- ---- what clashes has one tag in common
 
--- two blocks that are no senders, of one type, and with one area, pair and agreement each
-other-tag : (a b : Block) → isSender a ≡ false → isSender b ≡ false → businessType a ≡ businessType b → part 24 80 a ≡ part 24 80 b → keyTag a ≡ keyTag b
-unfolding keyTag wideTag isTrade pair
-other-tag a b n m t e = rw (n, m, t, inside 0 32 (omega arith), inside 32 32 (omega arith), inside 32 48 (omega arith))
-  where
-    inside : (o w : ℕ) → o + w ≤ 80 → part (24 + o) w a ≡ part (24 + o) w b
-    inside o w h = sym (part-part 24 80 o w a h) ∙ ap (part o w) e ∙ part-part 24 80 o w b h
+-- two blocks that have areas, parties and agreement in common; where they are no senders, and of one type
+module _ (a b : Block) (e : part 24 80 a ≡ part 24 80 b) where
+  inside : (o w : ℕ) → o + w ≤ 80 → part (24 + o) w a ≡ part (24 + o) w b
+  inside o w h = sym (part-part 24 80 o w a h) ∙ ap (part o w) e ∙ part-part 24 80 o w b h
+
+  wide : wideTag a ≡ wideTag b
+  unfolding wideTag
+  wide = rw (inside 0 32 (omega arith), inside 32 48 (omega arith))
+
+  other-tag : isSender a ≡ false → isSender b ≡ false → businessType a ≡ businessType b → keyTag a ≡ keyTag b
+  unfolding keyTag isTrade pair
+  other-tag n m t = rw (n, m, t, inside 32 32 (omega arith), wide)
 
 but-limits-type : (a b : Block) → butLimits a ≡ butLimits b → businessType a ≡ businessType b
 unfolding butLimits businessType
@@ -54,12 +59,16 @@ module _ (a b : Block) where
   unfolding sameSender keyTag
   sender-tag t = let u = and-left _ _ t in rw (and-left _ _ u, and-right _ _ u) (ap tagOf (same-yes _ _ (and-right _ _ t)))
 
-  pub right-tag : sameRight a b ≡ true → keyTag a ≡ keyTag b
+  right-tag : sameRight a b ≡ true → keyTag a ≡ keyTag b
   unfolding sameRight
   right-tag t =
       let u = and-left _ _ t in
       let e = same-yes _ _ (and-right _ _ t) in
-      other-tag a b (right-not-sender a (and-left _ _ u)) (right-not-sender b (and-right _ _ u)) (but-limits-type a b e) (but-limits-key a b e)
+      other-tag a b (but-limits-key a b e) (right-not-sender a (and-left _ _ u)) (right-not-sender b (and-right _ _ u)) (but-limits-type a b e)
+
+  pub right-wide : sameRight a b ≡ true → wideTag a ≡ wideTag b
+  unfolding sameRight
+  right-wide t = wide a b (but-limits-key a b (same-yes _ _ (and-right _ _ t)))
 
   module _ (u : isSeries a ≡ true) (v : isSeries b ≡ true) where
     series-id-tag : same (idOf a) (idOf b) ≡ true → idTag a ≡ idTag b
@@ -69,7 +78,7 @@ module _ (a b : Block) where
     series-key-tag : same (key a) (key b) ≡ true → keyTag a ≡ keyTag b
     series-key-tag w =
         let e = same-yes _ _ w in
-        other-tag a b (series-not-sender a u) (series-not-sender b v) (key-business a b e) (sym (key-back a) ∙ ap (drop 2) e ∙ key-back b)
+        other-tag a b (sym (key-back a) ∙ ap (drop 2) e ∙ key-back b) (series-not-sender a u) (series-not-sender b v) (key-business a b e)
 
 tag-clash : (a b : Block) → clashes a b ≡ true → (is (idTag a) (idTag b) or is (keyTag a) (keyTag b)) ≡ true
 unfolding clashes sameSeries
@@ -84,12 +93,8 @@ tag-clash a b e =
     (λ w. or-yes-right _ _ (is-equal _ _ (series-key-tag a b u v (or-else _ _ (and-right _ _ s) w)))))
     (λ s. or-yes-right _ _ (is-equal _ _ (right-tag a b (or-else _ _ e (or-no _ _ t s))))))
 
-differ : (x y z w : ℕ) → (not (eqb x y) && not (eqb z w)) ≡ true → (is x y or is z w) ≡ false
-unfolding _and_ is
-differ x y z w e = or-no _ _ (not-true (eqb x y) (and-left (not (eqb x y)) (not (eqb z w)) e)) (not-true (eqb z w) (and-right (not (eqb x y)) (not (eqb z w)) e))
-
-pub tags-apart : (s : Bytes) (m : ℕ) (u v : List ℕ) (i j : ℕ) → Tags (cut 512 s) m u v → i < m → j < m → (not (eqb (getD u i 0) (getD u j 0)) && not (eqb (getD v i 0) (getD v j 0))) ≡ true
+pub tags-apart : (s : Bytes) (m : ℕ) (u v : List ℕ) (i j : ℕ) → Tags (cut 512 s) m u v → i < m → j < m → (eqb (getD u i 0) (getD u j 0) || eqb (getD v i 0) (getD v j 0)) ≡ false
     → false ≡ clashes (getD (cut 512 s) i []) (getD (cut 512 s) j [])
-unfolding Tags
+unfolding Tags is _or_
 tags-apart s m u v i j a h k e =
-    sym (split (clashes (getD (cut 512 s) i []) (getD (cut 512 s) j [])) (λ t. clash (tag-clash _ _ t) (rw (a i h .0, a j k .0, a i h .1, a j k .1) at (differ (getD u i 0) (getD u j 0) (getD v i 0) (getD v j 0) e))) (λ t. t))
+    sym (split (clashes (getD (cut 512 s) i []) (getD (cut 512 s) j [])) (λ t. clash (tag-clash _ _ t) (rw (a i h .0, a j k .0, a i h .1, a j k .1) at e)) (λ t. t))

@@ -10,10 +10,10 @@ use Rattle.laws.specs.Cut.Laws.{cut-length}
 use Rattle.paper.specs.Layout.{Bytes, Block, nOf, seriesCount, sender}
 use Rattle.paper.specs.Ranges.{countAllowed}
 use Rattle.paper.specs.Book.{isSender, isSeries, isRight, isSenderBlockOf, slotOf, isSeriesOf}
-use Rattle.paper.specs.Sound.{senderSound, countSound, rightSound, usedSound, sameSender, sameSeries, sameRight, differingSound}
+use Rattle.paper.specs.Sound.{senderSound, countSound, usedSound, sameSender, sameSeries, sameRight, differingSound}
 use Rattle.facts.specs.Book.{sender-not-series, right-not-series}
 use Rattle.sound.specs.Used.{usedFields, countRight, clashes, linkedSound, eachUsed}
-use Rattle.sound.specs.Links.{keyTag, group, inGroup}
+use Rattle.sound.specs.Links.{wideTag, group, inGroup}
 use Rattle.laws.specs.Lists.Both.{every-both, apart-either}
 
 -- ---- a sender's slot and its count
@@ -30,7 +30,7 @@ series-group : (k : ℕ) → k < 1000 → (b : Block) → isSeriesOf (k + 1) b �
 unfolding isSeriesOf inGroup group _and_
 series-group k h b =
     split (isSeries b) (λ t. rw t)
-    (λ t. split (isRight b) (λ r. rw (t, r) (sym (is-other (1001 + keyTag b % 23) (k + 1) (λ e. omega arith)))) (λ r. rw (t, r) (sym (is-other 0 (k + 1) (λ e. omega arith)))))
+    (λ t. split (isRight b) (λ r. rw (t, r) (sym (is-other (1001 + wideTag b % 23) (k + 1) (λ e. omega arith)))) (λ r. rw (t, r) (sym (is-other 0 (k + 1) (λ e. omega arith)))))
 
 pub own-count : (s : Bytes) (i : ℕ) → length s / 512 ≤ 1000 → i < length s / 512 → apart clashes (cut 512 s) ≡ true → isSender (getD (cut 512 s) i []) ≡ true
     → countRight (cut 512 s) (getD (cut 512 s) i []) ≡ (countAllowed (seriesCount (getD (cut 512 s) i [])) and is (seriesCount (getD (cut 512 s) i [])) (count (inGroup (i + 1)) (cut 512 s)))

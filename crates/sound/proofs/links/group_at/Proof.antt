@@ -15,7 +15,7 @@ returns-2 : tie.Need-returns-2
 returns-2 c =
     let r = c .before .before in
     let k = r .before .before in
-    group-right _ _ (k .before .block-at .ensures) (k .is-series .ensures) (r .before .if1 .left) (r .is-right .ensures) (c .before .if2 .taken) (c .key-tag .ensures)
+    group-right _ _ (k .before .block-at .ensures) (k .is-series .ensures) (r .before .if1 .left) (r .is-right .ensures) (c .before .if2 .taken) (c .wide-tag .ensures)
 
 returns-3 : tie.Need-returns-3
 returns-3 c =

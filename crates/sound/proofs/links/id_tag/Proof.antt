@@ -1,4 +1,4 @@
--- The tag is that of the bytes that the definition chooses.
+-- The tag is that of the bytes that the definition chooses, or the one handed in.
 use Rattle.laws.specs.Kit.{needs, sym, ap, _∙_}
 use Rattle.index.specs.Tags.{tagOf}
 use Rattle.sound.specs.Links.{idTag}
@@ -11,9 +11,9 @@ returns c = rw (sym (c .before .before .before .is-series .ensures) ∙ c .befor
 
 returns-2 : tie.Need-returns-2
 unfolding idTag
-returns-2 c = rw (sym (c .before .before .is-series .ensures) ∙ c .before .if1 .left) (c .key-tag .ensures)
+returns-2 c = rw (sym (c .before .is-series .ensures) ∙ c .if1 .left) (c .before .before .before .pre)
 
 pub id-tag-spec : {M : Type 1} → statement M
 id-tag-spec =
     tie.close
-    (tie.spec (λ c κs. search needs) (λ c κs. search needs) (λ c κs. search needs) returns (λ c κs. search needs) returns-2)
+    (tie.spec (λ c κs. search needs) (λ c κs. search needs) (λ c κs. search needs) returns returns-2)

@@ -20,9 +20,9 @@ loop-holds c =
 loop-again : tie.Need-loop-again Inv-loop μ-loop
 loop-again c =
     let b = c .before .before in
-    (omega arith, tags-more _ _ _ _ (omega arith) (omega arith) (b .block-at .ensures) (c .before .id-tag .ensures) (c .key-tag .ensures) (b .before .before .loop .inv .1), search needs, search needs)
+    (omega arith, tags-more _ _ _ _ (omega arith) (omega arith) (b .block-at .ensures) (c .id-tag .ensures) (c .before .key-tag .ensures) (b .before .before .loop .inv .1), search needs, search needs)
 
 pub tag-spec : {M : Type 1} → statement M
 tag-spec =
     tie.close
-    (tie.spec Inv-loop μ-loop loop-holds (λ c κs. search needs) (λ c κs. search needs) (search needs) (search needs) (λ c κs. search needs) (search needs) (search needs) (search needs) (search needs) loop-again (λ c. tags-all _ _ _ _ _ (c .before .loop .inv .0) (c .loop-test .left) (c .before .loop .inv .1)))
+    (tie.spec Inv-loop μ-loop loop-holds (λ c κs. search needs) (λ c κs. search needs) (λ c κs. search needs) (search needs) (search needs) (search needs) (search needs) (search needs) (search needs) loop-again (λ c. tags-all _ _ _ _ _ (c .before .loop .inv .0) (c .loop-test .left) (c .before .loop .inv .1)))

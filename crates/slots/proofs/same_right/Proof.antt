@@ -1,8 +1,8 @@
 -- The tests are the definition's.
 use Rattle.laws.specs.Kit.{needs, _and_}
 use Rattle.paper.specs.Sound.{sameRight}
-use Rattle.sound.proofs.apart.same_right.Statement.{statement}
-use Rattle.sound.proofs.apart.same_right.Tie as tie
+use Rattle.slots.proofs.same_right.Statement.{statement}
+use Rattle.slots.proofs.same_right.Tie as tie
 
 returns : tie.Need-returns
 unfolding sameRight _and_

@@ -1,9 +1,9 @@
 -- A row written over one of its own length is that row; the area stands within the day block.
-use Rattle.laws.specs.Kit.{arith, needs, sym, ap, _∙_, length, now}
+use Rattle.laws.specs.Kit.{arith, needs, _∙_, length, now}
 use Rattle.laws.specs.Bytes.Laws.{written-all}
-use Rattle.conversion.proofs.Laws.Whole.{area-read}
-use Rattle.conversion.proofs.area_of.Statement.{statement}
-use Rattle.conversion.proofs.area_of.Tie as tie
+use Rattle.slots.proofs.Laws.{area-read}
+use Rattle.slots.proofs.area_of.Statement.{statement}
+use Rattle.slots.proofs.area_of.Tie as tie
 
 returns : tie.Need-returns
 returns c =
