@@ -26,6 +26,7 @@ int main(int argc, char **argv) {
     if (!strcmp(call, "mark")) r = tetherbay_mark(book, sizeof book, party, 16, id, 16).differ;
     if (!strcmp(call, "block")) r = tetherbay_accepted_block(book, sizeof book, party, 16, id, 16).offset;
     if (!strcmp(call, "final")) r = tetherbay_final(book, sizeof book, other, 16, party, 16, 1).number; /* the buyer has the pair, the seller has none */
+    if (!strcmp(call, "settled")) r = tetherbay_settled(book, sizeof book, party, 16, 1).bought;
     if (!strcmp(call, "plain")) r = tetherbay_plain_run(book, sizeof book).holds;
     if (!strcmp(call, "convert")) r = tetherbay_convert(book, sizeof book);
     if (!strcmp(call, "right") || !strcmp(call, "enter")) r = tetherbay_enter_right(book, sizeof book, right, BLOCK); /* 17; 0 */

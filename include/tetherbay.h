@@ -208,6 +208,19 @@ typedef struct {
 tetherbay_final_answer tetherbay_final(const uint8_t *book, size_t length, const uint8_t *seller, size_t seller_length, const uint8_t *buyer, size_t buyer_length,
                                        size_t position);
 
+/* 0, 1, 24 or 25, and on 0 the kilowatts bought and sold; they may pass 32 bits. */
+typedef struct {
+    uint32_t number;
+    uint64_t bought;
+    uint64_t sold;
+} tetherbay_settled_answer;
+
+/* What a party buys and what it sells at a closed position: the final values of the trades in which it is the buyer, and of those in which it is the seller. A trade
+   counts once though both sides keep it; A's sale to B and B's sale to A are two. The settled position is bought less sold, and may be below 0. At one closed position,
+   over all parties of the book's trades, each once, as much is bought as is sold. The book is only read; whether its marks and nets are true makes no difference.
+   1, 24 and 25 as for a final value, with both sums 0; else 0, and both sums are 0 for a name that is no party of a trade. */
+tetherbay_settled_answer tetherbay_settled(const uint8_t *book, size_t length, const uint8_t *party, size_t party_length, size_t position);
+
 /* 0 and whether all kept marks and nets are true, or 1 and false where the book is not sound. */
 typedef struct {
     uint32_t number;

@@ -227,6 +227,13 @@ static void submissions(void) {
     submitted("submit it again", (tetherbay_verdict){6, 51, 0, 0, 0}, 0);
 }
 
+static void settled(const char *what, unsigned party, size_t position, tetherbay_settled_answer expected) {
+    tetherbay_settled_answer s = tetherbay_settled(book, sizeof book, eic(party), 16, position);
+    is_field(what, "number", s.number, expected.number);
+    is_field(what, "bought", s.bought, expected.bought);
+    is_field(what, "sold", s.sold, expected.sold);
+}
+
 /* Slots 1 to 6: party 1 and its two series, party 2 and its two. They differ at positions 98 and 100. */
 static void readings(void) {
     uint8_t one[16], two[16], id[16] = "SERIES-0001", text[400];
@@ -240,6 +247,7 @@ static void readings(void) {
     is("accepted block, offset", p.offset, 5 * BLOCK);
     is("accepted block, length", p.length, BLOCK);
     is("final, 25", tetherbay_final(book, sizeof book, one, 16, two, 16, 100).number, 25);
+    settled("settled, 25", 2, 100, (tetherbay_settled_answer){25, 0, 0});
 
     tetherbay_clock_answer c = tetherbay_clock(book, sizeof book, 11580);
     is("clock, number", c.number, 0);
@@ -257,9 +265,19 @@ static void readings(void) {
     f = tetherbay_final(book, sizeof book, eic(3), 16, two, 16, 100);
     is("final of a lone side, number", f.number, 0);
     is("final of a lone side", f.kilowatts, 0);
+    settled("settled, the buyer", 2, 100, (tetherbay_settled_answer){0, 7, 0}); /* once, though both sides keep the trade */
+    settled("settled, the seller", 1, 100, (tetherbay_settled_answer){0, 0, 7});
+    settled("settled, no sender", 3, 100, (tetherbay_settled_answer){0, 0, 0}); /* sells to both, who alone keep it */
+    settled("settled where both agree", 2, 99, (tetherbay_settled_answer){0, 9999998, 0});
+    settled("settled, in no trade", 4, 100, (tetherbay_settled_answer){0, 0, 0});
+    settled("settled, 24", 2, SIZE_MAX, (tetherbay_settled_answer){24, 0, 0});
+    is("settled, a short name", tetherbay_settled(book, sizeof book, two, 15, 100).bought, 0);
+    is("settled, 1", tetherbay_settled(book, sizeof book - 1, two, 16, 100).number, 1);
     book[6] = TETHERBAY_SELLERS; /* as a book on file has it */
     tetherbay_seal(book, BLOCK);
     is("final, the seller's", tetherbay_final(book, sizeof book, one, 16, two, 16, 100).kilowatts, 9999999);
+    settled("settled by the seller's rule, the buyer", 2, 100, (tetherbay_settled_answer){0, 9999999, 0});
+    settled("settled by the seller's rule, the seller", 1, 100, (tetherbay_settled_answer){0, 0, 9999999});
     book[6] = TETHERBAY_LESSER;
     tetherbay_seal(book, BLOCK);
     is("final, 24", tetherbay_final(book, sizeof book, one, 16, two, 16, SIZE_MAX).number, 24);

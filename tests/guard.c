@@ -439,6 +439,11 @@ static void call_final(void) {
     tetherbay_final(b, lent_length, seller, fields[0].length, buyer, fields[1].length, one_in(8) ? (size_t)seed : below(102));
 }
 
+static void call_settled(void) {
+    const uint8_t *b = lend_book(&read_book), *party = lend_field(0, 72);
+    tetherbay_settled(b, lent_length, party, fields[0].length, one_in(8) ? (size_t)seed : below(102));
+}
+
 static void call_plain_run(void) {
     const uint8_t *b = lend_book(&read_book);
     tetherbay_plain_run(b, lent_length);
@@ -483,6 +488,7 @@ static const struct {
     {"tetherbay_mark", call_mark},
     {"tetherbay_accepted_block", call_accepted_block},
     {"tetherbay_final", call_final},
+    {"tetherbay_settled", call_settled},
     {"tetherbay_plain_run", call_plain_run},
     {"tetherbay_listing", call_listing},
     {"tetherbay_series", call_series},

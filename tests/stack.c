@@ -76,6 +76,7 @@ static void call_submit(void) { answer = tetherbay_submit(book, sizeof book, mes
 static void call_mark(void) { answer = tetherbay_mark(book, sizeof book, party, 16, id, 16).number; }
 static void call_accepted_block(void) { answer = tetherbay_accepted_block(book, sizeof book, party, 16, id, 16).length; }
 static void call_final(void) { answer = tetherbay_final(book, sizeof book, other, 16, party, 16, 1).number; }
+static void call_settled(void) { answer = tetherbay_settled(book, sizeof book, party, 16, 1).number; }
 static void call_plain_run(void) { answer = tetherbay_plain_run(book, sizeof book).number; }
 static void call_listing(void) { answer = tetherbay_listing(small, sizeof small, text, sizeof text); }
 static void call_series(void) { answer = tetherbay_series(message, message_length, MOST_SERIES).length; }
@@ -104,6 +105,7 @@ static struct {
     {"tetherbay_mark", call_mark, 0},
     {"tetherbay_accepted_block", call_accepted_block, 0},
     {"tetherbay_final", call_final, 0},
+    {"tetherbay_settled", call_settled, 0},
     {"tetherbay_plain_run", call_plain_run, 0},
     {"tetherbay_judge", call_judge, 0},
     {"tetherbay_enter_right", call_enter_right, 0},

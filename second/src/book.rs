@@ -23,6 +23,10 @@ impl<'book> SoundBook<'book> {
         Some(SoundBook { bytes, used })
     }
 
+    pub fn bytes(&self) -> &'book [u8] {
+        self.bytes
+    }
+
     pub fn day(&self) -> &'book Block {
         block_at(self.bytes, 0)
     }

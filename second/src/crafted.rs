@@ -21,7 +21,7 @@ pub struct Shape {
 }
 
 /// The number of a right's sender: it has none.
-const NO_SENDER: usize = usize::MAX;
+pub const NO_SENDER: usize = usize::MAX;
 
 /// The bytes of a block list, each block sealed. A free block stays zero, since its check is 0.
 pub fn sealed(mut list: Vec<Block>) -> Vec<u8> {
@@ -65,13 +65,24 @@ pub fn sound_book(random: &mut Random, pool: &[Field], shape: &Shape) -> Vec<u8>
     }
     let first = list.len().min(random.below(3));
     list.splice(first..first, rights.into_iter().map(|right| (NO_SENDER, right)));
+    book_of(random, day, list, shape.senders, shape.free_slots)
+}
+
+/// The book of blocks that come with the number of their sender, often in another order.
+pub fn book_of(
+    random: &mut Random,
+    day: Block,
+    mut list: Vec<(usize, Block)>,
+    senders: usize,
+    free_slots: usize,
+) -> Vec<u8> {
     if random.percent(60) {
         random.shuffle(&mut list);
     }
     let mut whole = vec![day];
-    whole.extend(placed(random, list, shape.senders));
-    assert!(whole.len() <= MOST_BLOCKS, "the shape is too large for a book");
-    let blocks = (whole.len() + shape.free_slots).clamp(FEWEST_BLOCKS, MOST_BLOCKS);
+    whole.extend(placed(random, list, senders));
+    assert!(whole.len() <= MOST_BLOCKS, "too many blocks for a book");
+    let blocks = (whole.len() + free_slots).clamp(FEWEST_BLOCKS, MOST_BLOCKS);
     whole.resize(blocks, [0; BLOCK_BYTES]);
     sealed(whole)
 }
@@ -160,7 +171,7 @@ fn widen(random: &mut Random, right: &mut Block, eics: &[Field], list: &[(usize,
     }
 }
 
-fn day_block(random: &mut Random, pool: &[Field]) -> Block {
+pub fn day_block(random: &mut Random, pool: &[Field]) -> Block {
     let mut day = [0; BLOCK_BYTES];
     day[KIND] = KIND_DAY;
     day[N] = random.pick(&NS);
@@ -184,16 +195,21 @@ pub fn filing(random: &mut Random, day: &Block, sender: &Field, partners: &[Fiel
     let others = partners.iter().filter(|&other| other != sender);
     let mut pairs: Vec<(Field, Field)> = others.flat_map(|&other| [(*sender, other), (other, *sender)]).collect();
     random.shuffle(&mut pairs);
+    assert!(pairs.len() >= count, "too few partners");
+    filing_of(random, day, sender, &pairs[..count])
+}
+
+/// The same with a series for each of these pairs, in party and out party, in their order.
+pub fn filing_of(random: &mut Random, day: &Block, sender: &Field, pairs: &[(Field, Field)]) -> Vec<Block> {
     let mut ids: Vec<Field> = Vec::new();
-    while ids.len() < count {
+    while ids.len() < pairs.len() {
         let id = names::id(random);
         if !ids.contains(&id) {
             ids.push(id);
         }
     }
-    assert!(pairs.len() >= count, "too few partners");
-    let mut list = vec![sender_block(random, day, sender, count)];
-    for (id, parties) in ids.iter().zip(&pairs) {
+    let mut list = vec![sender_block(random, day, sender, pairs.len())];
+    for (id, parties) in ids.iter().zip(pairs) {
         list.push(series_block(random, day, id, parties));
     }
     list

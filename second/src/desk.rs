@@ -13,6 +13,7 @@ use crate::message::{series_of_message, SeriesReader};
 use crate::quantity_text;
 use crate::readings;
 use crate::right;
+use crate::settlement::{self, Settled};
 use crate::sound;
 use crate::stream::{Opening, Record};
 use crate::submission::{judge, submit, Verdict};
@@ -46,6 +47,7 @@ pub enum Reply {
     Judge(Verdict),
     Convert(u8),
     Right(u8),
+    Settled { number: u8, settled: Settled },
 }
 
 /// Bytes outside the buffer were to be set: the stream is malformed.
@@ -152,6 +154,10 @@ impl Desk {
             Record::Judge(message) => Reply::Judge(judge(&self.book, message)),
             Record::Convert => Reply::Convert(convert(&mut self.book)),
             Record::Right(block) => Reply::Right(right::enter(&mut self.book, block)),
+            Record::Settled { party, position } => {
+                let (number, settled) = settlement::settled(&self.book, party, Position(*position));
+                Reply::Settled { number, settled }
+            }
         })
     }
 
@@ -194,6 +200,7 @@ impl Desk {
             Reply::Judge(verdict) => writeln!(out, "judge {}", numbers_of(verdict)),
             Reply::Convert(number) => writeln!(out, "convert {number}"),
             Reply::Right(number) => writeln!(out, "right {number}"),
+            Reply::Settled { number, settled } => writeln!(out, "settled {number} {} {}", settled.bought, settled.sold),
         }
     }
 }
@@ -252,6 +259,7 @@ mod tests {
         assert_eq!(line(&mut desk, Record::Judge(vec![])), "judge 1 0 0 0 0\n");
         assert_eq!(line(&mut desk, Record::Convert), "convert 1\n");
         assert_eq!(line(&mut desk, Record::Right(vec![])), "right 1\n");
+        assert_eq!(line(&mut desk, Record::Settled { party: vec![], position: 0 }), "settled 1 0 0\n");
         assert_eq!(line(&mut desk, Record::Mark { sender: vec![], id: vec![] }), "mark 1 0 0 0\n");
         assert_eq!(line(&mut desk, Record::Listing), "listing 6e6f7420736f756e640a\n");
         assert_eq!(line(&mut desk, Record::Length(1_024)), "length 1024\n");
@@ -278,6 +286,8 @@ mod tests {
         assert_eq!(line(&mut desk, Record::Plain), "plain 0 1\n");
         assert_eq!(line(&mut desk, Record::Convert), "convert 0\n");
         assert_eq!(line(&mut desk, Record::Right(vec![])), "right 40\n");
+        assert_eq!(line(&mut desk, Record::Settled { party: vec![], position: 0 }), "settled 24 0 0\n");
+        assert_eq!(line(&mut desk, Record::Settled { party: vec![], position: 96 }), "settled 25 0 0\n");
         assert_eq!(line(&mut desk, Record::Mark { sender: vec![], id: vec![] }), "mark 23 0 0 0\n");
         assert_eq!(line(&mut desk, Record::Block { sender: vec![], id: vec![] }), "block 0\n");
         assert_eq!(line(&mut desk, Record::Reader { number: 1, message: vec![] }), "reader 0\n");

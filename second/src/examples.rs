@@ -4,6 +4,7 @@
 use std::fmt::Debug;
 
 use crate::block::*;
+use crate::book::SoundBook;
 use crate::codes::reason_code;
 use crate::conversion::convert;
 use crate::counts::{Minute, Position, Slot, DAY_START};
@@ -20,6 +21,7 @@ use crate::quantity_text;
 use crate::random::Random;
 use crate::readings::{accepted_block, final_value, mark_of, plain_run};
 use crate::right::enter;
+use crate::settlement::{pairs, parties, settled};
 use crate::sound::{is_sound, MOST_BLOCKS};
 use crate::stream::Record;
 use crate::submission::{self, judge, Verdict};
@@ -85,6 +87,14 @@ pub const EXAMPLES: &[Example] = &[
     ("rights in a sound book", rights_in_sound_books),
     ("external schedules converted", converted_externals),
     ("rights in the answer line", rights_in_lines),
+    ("settled positions of two", settled_of_two),
+    ("each pair counted once", pairs_counted_once),
+    ("settled positions that are refused", settled_refused),
+    ("settled positions of strangers", settled_of_strangers),
+    ("settled positions without external schedules", settled_without_externals),
+    ("settled positions whatever the marks say", settled_beside_marks),
+    ("settled positions above 32 bits", settled_above_32_bits),
+    ("settled positions in the answer line", settled_in_lines),
 ];
 
 fn same<T: PartialEq + Debug>(what: &str, found: T, expected: T) -> Outcome {
@@ -1438,6 +1448,186 @@ fn rights_in_lines() -> Outcome {
             Record::Listing,
             "listing 736c6f742073656e6465722073657269657320696e206f75742064696666657220666972737420706172746e65720a\n",
         ),
+    ];
+    for (record, expected) in records {
+        let mut text = Vec::new();
+        let reply = desk.answer(&record).map_err(|_| "outside the buffer")?;
+        desk.write_line(&reply, &mut text).map_err(|error| error.to_string())?;
+        same("the line", String::from_utf8_lossy(&text).as_ref(), expected)?;
+    }
+    Ok(())
+}
+
+/// Number, bought and sold of a party at position 5.
+fn at_5(book: &[u8], party: &[u8]) -> (u8, u64, u64) {
+    let (number, sums) = settled(book, party, Position(5));
+    (number, sums.bought, sums.sold)
+}
+
+/// Document 02, C-20: a trade counts once, by the book's rule, for its buyer and for its seller.
+fn settled_of_two() -> Outcome {
+    for (sold, bought, by_seller, lesser) in [
+        (Some(45_000), Some(44_000), 45_000, 44_000),
+        (Some(44_000), Some(45_000), 44_000, 44_000),
+        (Some(45_000), Some(45_000), 45_000, 45_000),
+        (Some(45_000), None, 45_000, 0),
+        (None, Some(45_000), 0, 0),
+        (None, None, 0, 0),
+    ] {
+        for (rule, expected) in [(SELLERS_RULE, by_seller), (LESSER_RULE, lesser)] {
+            let book = closed_book(rule, sold, bought)?;
+            let what = format!("rule {rule}, {sold:?} sold and {bought:?} bought");
+            same(&what, at_5(&book, BUYER), (0, expected, 0))?;
+            same(&what, at_5(&book, SELLER), (0, 0, expected))?;
+            same(&what, at_5(&book, OTHER), (0, 0, 0))?;
+        }
+    }
+    Ok(())
+}
+
+/// A book of this rule, closed up to position 5. The seller sells 45,000 to the buyer, who has 44,000, and buys 10,000
+/// from it, who has 12,000. It also sells 7,000 to another, and the buyer buys 3,000 from that one, who files nothing.
+fn book_of_three(rule: u8) -> Result<Vec<u8>, String> {
+    let mut book = opened_by(rule);
+    let of_seller = [
+        series("S1", BUYER, SELLER, 1, 96, 45_000),
+        series("S2", SELLER, BUYER, 1, 96, 10_000),
+        series("S3", OTHER, SELLER, 1, 96, 7_000),
+    ];
+    let of_buyer = [
+        series("B1", BUYER, SELLER, 1, 96, 44_000),
+        series("B2", SELLER, BUYER, 1, 96, 12_000),
+        series("B3", BUYER, OTHER, 1, 96, 3_000),
+    ];
+    same("the seller files", answer(submit(&mut book, &message(SELLER, 1, 96, &of_seller))), ACCEPTED)?;
+    same("the buyer files", answer(submit(&mut book, &message(BUYER, 1, 96, &of_buyer))), ACCEPTED)?;
+    same("clock", move_clock(&mut book, Minute(DAY_START + 16)).0, 0)?;
+    Ok(book)
+}
+
+fn pairs_counted_once() -> Outcome {
+    let by_seller = [(SELLER, 12_000, 52_000), (BUYER, 45_000, 12_000), (OTHER, 7_000, 0)];
+    let lesser = [(SELLER, 10_000, 44_000), (BUYER, 44_000, 10_000), (OTHER, 0, 0)];
+    for (rule, expected, total) in [(SELLERS_RULE, by_seller, 64_000), (LESSER_RULE, lesser, 54_000)] {
+        let book = book_of_three(rule)?;
+        let sound = SoundBook::of(&book).ok_or("the book is not sound")?;
+        same(
+            "pairs",
+            pairs(&sound),
+            [(*SELLER, *BUYER), (*BUYER, *SELLER), (*SELLER, *OTHER), (*OTHER, *BUYER)].into(),
+        )?;
+        same("parties", parties(&sound), [*SELLER, *BUYER, *OTHER].into())?;
+        for (party, bought, sold) in expected {
+            same(&format!("rule {rule}"), at_5(&book, party), (0, bought, sold))?;
+        }
+        let sums: Vec<(u8, u64, u64)> = parties(&sound).iter().map(|party| at_5(&book, party)).collect();
+        same("bought by all", sums.iter().map(|sum| sum.1).sum(), total)?;
+        same("sold by all", sums.iter().map(|sum| sum.2).sum(), total)?;
+    }
+    Ok(())
+}
+
+fn settled_refused() -> Outcome {
+    let mut book = book_of_three(SELLERS_RULE)?;
+    let numbers = |book: &[u8], position: u16| {
+        [&SELLER[..], OTHER, AREA_CODE, b"", &[0; 16]].map(|party| settled(book, party, Position(position)))
+    };
+    let of = |number: u8| [(number, Default::default()); 5];
+    for (position, number) in [(0, 24), (6, 25), (96, 25), (97, 24), (100, 24), (255, 24), (261, 24), (65_535, 24)] {
+        same(&format!("position {position}"), numbers(&book, position), of(number))?;
+    }
+    book[9] ^= 1;
+    for position in [0, 5, 6, 97] {
+        same("not sound", numbers(&book, position), of(1))?;
+    }
+    same("no book", numbers(&[], 5), of(1))
+}
+
+/// A name that no party has gives zeros, also one of another length.
+fn settled_of_strangers() -> Outcome {
+    let book = book_of_three(SELLERS_RULE)?;
+    let longer = [&SELLER[..], b"\0"].concat();
+    let names: [&[u8]; 8] =
+        [AREA_CODE, RECEIVER_CODE, b"14XBILANZGR-1--G", &[0; 16], &SELLER[..15], &longer, &[b'A'; 64], b""];
+    names.iter().try_for_each(|name| same(&format!("{name:?}"), at_5(&book, name), (0, 0, 0)))?;
+    let empty = &mut opened(4, 96, 45);
+    same("clock", move_clock(empty, Minute(DAY_START + 16)).0, 0)?;
+    same("a book without series", at_5(empty, SELLER), (0, 0, 0))?;
+    same("its parties", parties(&SoundBook::of(empty).ok_or("the book is not sound")?).len(), 0)
+}
+
+/// The holder of a right and the parties of external schedules are no parties for that.
+fn settled_without_externals() -> Outcome {
+    let outward = with(&with(&without_capacity("X", 1, 7), IN_PARTY, BUYER), OUT_PARTY, SELLER);
+    let on_right = with(&on_right("Y", 1, 9), OUT_PARTY, OTHER);
+    let trade = series("S", BUYER, SELLER, 1, 96, 5);
+    for (list, value, number) in [(vec![outward, on_right], 0, 0), (vec![outward, on_right, trade], 5, 2)] {
+        let mut book = opened_by(SELLERS_RULE);
+        same("a right", enter(&mut book, &right(SELLER, 5_000)), 0)?;
+        same("filed", answer(submit(&mut book, &message(SELLER, 1, 96, &list))), ACCEPTED)?;
+        same("clock", move_clock(&mut book, Minute(DAY_START + 16)).0, 0)?;
+        same("the seller", at_5(&book, SELLER), (0, 0, value))?;
+        same("the buyer", at_5(&book, BUYER), (0, value, 0))?;
+        same("the other", at_5(&book, OTHER), (0, 0, 0))?;
+        same("parties", parties(&SoundBook::of(&book).ok_or("the book is not sound")?).len(), number)?;
+    }
+    Ok(())
+}
+
+/// No mark or net is read.
+fn settled_beside_marks() -> Outcome {
+    let book = book_of_three(LESSER_RULE)?;
+    let mut other = book.clone();
+    for slot in 1..9 {
+        let block = block_at_mut(&mut other, slot);
+        match block[KIND] {
+            KIND_SERIES => put_mark(block, Mark { differ: 96, first: Position(7), partner: Slot(slot as u16) }),
+            _ => put_nets(block, &[0; POSITIONS]),
+        }
+        seal(block);
+    }
+    same("the plain run", plain_run(&other), (0, false))?;
+    for party in [SELLER, BUYER, OTHER] {
+        same("the sums", at_5(&other, party), at_5(&book, party))?;
+    }
+    Ok(())
+}
+
+/// 500 sellers of the highest quantity to one buyer, who files nothing: 4,999,999,500 by the seller's rule.
+fn settled_above_32_bits() -> Outcome {
+    let mut book = vec![0; MOST_BLOCKS * BLOCK_BYTES];
+    same("opening", open_by(&mut book, 96, 45, SELLERS_RULE, DAY_TEXT, AREA_CODE, RECEIVER_CODE), (0, 0))?;
+    for (number, expected) in [(429, 4_289_999_571), (430, 4_299_999_570), (500, 4_999_999_500)] {
+        let filed = blocks(&book).filter(|block| block[KIND] == KIND_SENDER).count();
+        for seller in (filed..number).map(|place| code_of(&format!("SELLER{place}"))) {
+            let sold = message(&seller, 1, 96, &[series("S", BUYER, &seller, 1, 96, HIGHEST_QUANTITY)]);
+            same("a seller files", answer(submit(&mut book, &sold)), ACCEPTED)?;
+        }
+        let mut closed = book.clone();
+        same("clock", move_clock(&mut closed, Minute(DAY_START + 16)).0, 0)?;
+        same("the buyer", at_5(&closed, BUYER), (0, expected, 0))?;
+        same("a seller", at_5(&closed, &code_of("SELLER428")), (0, 0, 9_999_999))?;
+        closed[RULE] = LESSER_RULE;
+        seal(block_at_mut(&mut closed, 0));
+        same("by the lesser value", at_5(&closed, BUYER), (0, 0, 0))?;
+    }
+    Ok(())
+}
+
+fn settled_in_lines() -> Outcome {
+    let mut desk = Desk::new();
+    let ask = |party: &[u8], position: u16| Record::Settled { party: party.to_vec(), position };
+    let records = [
+        (ask(SELLER, 5), "settled 1 0 0\n"),
+        (Record::Length(10 * 512), "length 5120\n"),
+        (Record::Bytes { offset: 0, bytes: book_of_three(SELLERS_RULE)? }, "bytes 0 5120\n"),
+        (ask(SELLER, 5), "settled 0 12000 52000\n"),
+        (ask(BUYER, 1), "settled 0 45000 12000\n"),
+        (ask(OTHER, 5), "settled 0 7000 0\n"),
+        (ask(AREA_CODE, 5), "settled 0 0 0\n"),
+        (ask(b"", 5), "settled 0 0 0\n"),
+        (ask(SELLER, 6), "settled 25 0 0\n"),
+        (ask(SELLER, 97), "settled 24 0 0\n"),
     ];
     for (record, expected) in records {
         let mut text = Vec::new();

@@ -31,12 +31,14 @@ mod finals;
 mod looks;
 mod messages;
 mod rights;
+mod rounds;
 
 use conversions::{ConversionTurn, Use};
 use episodes::{OpeningInVain, WrongRule};
 use externals::ExternalTurn;
 use looks::PartnersAt;
 use rights::RightTurn;
+use rounds::Rounds;
 
 /// What is known of the book on which a call is made.
 #[derive(Clone, Copy, Debug, PartialEq, Eq)]
@@ -296,6 +298,7 @@ pub struct Generator {
     steps_of_two: usize,
     climber: Option<Climber>,
     repair: Option<Repair>,
+    rounds: Rounds,
     /// Of the last record.
     standing: Standing,
 }
@@ -359,19 +362,26 @@ impl Generator {
             steps_of_two: 0,
             climber: None,
             repair: None,
+            rounds: Rounds::new(seed),
             standing: Standing::Usual,
         }
     }
 
-    /// The next record, given the book as all records before left it.
-    pub fn next(&mut self, book: &[u8]) -> Record {
+    /// The next record, given the book as all records before left it. The stream is to have so many more calls, this
+    /// one included if it is one, so that it does not end in the midst of a round.
+    pub fn next(&mut self, book: &[u8], left: u64) -> Record {
         loop {
             if let Some((record, standing)) = self.queue.pop_front() {
                 self.standing = standing;
+                self.rounds.count(&record);
                 return record;
             }
             self.queue.standing = Standing::Usual;
-            self.plan(book);
+            if self.rounds.have_turn() {
+                self.settled_rounds(book, left);
+            } else {
+                self.plan(book);
+            }
         }
     }
 
@@ -463,7 +473,7 @@ pub fn write_stream(seed: u64, calls: u64, left_out: &[&str], out: &mut impl Wri
     let mut desk = Desk::new();
     let mut made = 0;
     while made < calls {
-        let record = generator.next(desk.book());
+        let record = generator.next(desk.book(), calls - made);
         let written = record.call_word().map_or(true, |word| !left_out.contains(&word));
         if written {
             record.write_to(out)?;
@@ -521,7 +531,7 @@ mod tests {
                 let mut desk = Desk::new();
                 let mut stream = Vec::new();
                 for _ in 0..4_000 {
-                    let record = generator.next(desk.book());
+                    let record = generator.next(desk.book(), u64::MAX);
                     let start = stream.len();
                     record.write_to(&mut stream).unwrap();
                     assert_eq!(Record::read_from(&mut &stream[start..]).unwrap(), Some(record.clone()));
@@ -546,6 +556,57 @@ mod tests {
             }
         }
         (words, sums)
+    }
+
+    /// Of each unbroken run of calls for settled positions how much is bought and how much is sold.
+    fn runs(stream: &[u8]) -> Vec<(u64, u64)> {
+        let mut desk = Desk::new();
+        let mut input = stream;
+        let (mut runs, mut within) = (Vec::new(), false);
+        while let Some(record) = Record::read_from(&mut input).unwrap() {
+            let reply = desk.answer(&record).unwrap();
+            let (bought, sold) = match reply {
+                Reply::Settled { settled, .. } => (settled.bought, settled.sold),
+                _ => {
+                    within = false;
+                    continue;
+                }
+            };
+            match runs.last_mut() {
+                Some((all_bought, all_sold)) if within => {
+                    *all_bought += bought;
+                    *all_sold += sold;
+                }
+                _ => runs.push((bought, sold)),
+            }
+            within = true;
+        }
+        runs
+    }
+
+    #[test]
+    fn as_much_is_bought_as_is_sold_wherever_a_stream_ends() {
+        for calls in 780..820 {
+            let mut stream = Vec::new();
+            write_stream(7, calls, &[], &mut stream).unwrap();
+            assert_eq!(words_and_sums(&stream).0.len() as u64, calls);
+            let runs = runs(&stream);
+            assert!(runs.iter().all(|(bought, sold)| bought == sold));
+            assert!(runs.iter().filter(|(bought, _)| *bought > 0).count() > 3);
+        }
+    }
+
+    #[test]
+    fn rounds_leave_the_rest_of_a_stream_as_it_is() {
+        let words = |calls: u64, left_out: &[&str]| {
+            let mut stream = Vec::new();
+            write_stream(8, calls, left_out, &mut stream).unwrap();
+            words_and_sums(&stream).0
+        };
+        let whole = words(2_000, &[]);
+        let others: Vec<&str> = whole.iter().copied().filter(|word| *word != "settled").collect();
+        assert!(others.len() >= 1_600 && others.len() < 1_990);
+        assert_eq!(words(others.len() as u64, &["settled"]), others);
     }
 
     #[test]

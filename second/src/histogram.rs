@@ -4,15 +4,17 @@ use std::fmt;
 
 use crate::block::*;
 use crate::breach::Breach;
+use crate::counts::Position;
 use crate::desk::Reply;
 use crate::difference::Difference;
 use crate::external::RightFault;
 use crate::final_case::FinalCase;
 use crate::generator::Standing;
+use crate::market::FILED;
 use crate::message::{self, MessageClause};
 use crate::old_book::BadState;
 use crate::sights::rules::{rule_kept, Asked};
-use crate::sights::{externals, marks, sights, Sight};
+use crate::sights::{externals, marks, settlements, sights, Sight};
 use crate::sound::{self, Layout, SoundClause, NS};
 use crate::stream::Record;
 use crate::submission::{Broken, Verdict};
@@ -33,6 +35,7 @@ const ANSWERS: &[(&str, &[u8])] = &[
     ("judge", &[0, 1, 2, 3, 4, 5, 6, 7, 8, 9, 10, 11, 12, 13, 14, 15, 16, 17, 18, 19]),
     ("convert", &[0, 1]),
     ("right", &[0, 1, 17, 40]),
+    ("settled", &[0, 1, 24, 25]),
 ];
 
 /// Where a wrong character is told, and which ones can be.
@@ -51,6 +54,9 @@ const JUDGING: [&str; 2] = ["submit", "judge"];
 
 /// The rules of finals, by their number.
 const RULE_NAMES: [&str; 2] = ["the seller's rule", "the lesser value"];
+
+/// What a party does in a trade.
+const SIDES: [&str; 2] = ["sold", "bought"];
 
 /// Whether the book was converted, and used since.
 #[derive(Clone, Copy, PartialEq, Eq)]
@@ -92,6 +98,8 @@ pub struct Histogram {
     differences: [Vec<u64>; 3],
     /// For each rule who filed what of a trade whose final was asked for.
     finals: [Vec<u64>; 2],
+    /// For each rule who filed what of a trade that a settled position counts, as sold and as bought.
+    settled: [[Vec<u64>; 2]; 2],
     sights: Vec<u64>,
     /// For each of the calls that judge a version.
     versions: [Vec<u64>; 2],
@@ -116,6 +124,7 @@ impl Default for Histogram {
             right_faults: vec![0; RightFault::ALL.len()],
             differences: NS.map(|_| vec![0; Difference::ALL.len()]),
             finals: RULE_NAMES.map(|_| vec![0; FinalCase::ALL.len()]),
+            settled: RULE_NAMES.map(|_| SIDES.map(|_| vec![0; FILED.len()])),
             sights: vec![0; Sight::ALL.len()],
             versions: [vec![0; VersionCase::ALL.len()], vec![0; VersionCase::ALL.len()]],
             refused: None,
@@ -176,6 +185,12 @@ impl Histogram {
                 if let Record::Right(body) = record {
                     let fault = externals::right_fault(body, *number, before);
                     fault.into_iter().for_each(|fault| self.right_faults[fault as usize] += 1);
+                }
+            }
+            Reply::Settled { number, .. } => {
+                self.answer("settled", *number, book);
+                if let (0, Record::Settled { party, position }) = (*number, record) {
+                    self.settled(party, Position(*position), book);
                 }
             }
             Reply::Eic(character) => self.character("eic", *character),
@@ -260,6 +275,17 @@ impl Histogram {
         }
     }
 
+    /// Counts who filed what of the trades that a settled position counts, each case once on each side.
+    fn settled(&mut self, party: &[u8], position: Position, book: &[u8]) {
+        let shares = settlements::shares(book, party, position);
+        for (place, side) in self.settled[usize::from(book[RULE])].iter_mut().enumerate() {
+            for (case, count) in FILED.iter().zip(side) {
+                let shown = shares.iter().any(|share| usize::from(share.buys) == place && share.case == Some(*case));
+                *count += u64::from(shown);
+            }
+        }
+    }
+
     fn refusal(&mut self, broken: Broken, submitted: &[u8]) {
         self.broken[broken as usize] += 1;
         if broken == Broken::MessageForm {
@@ -316,9 +342,13 @@ impl Histogram {
         self.sound[clause as usize] += 1;
     }
 
-    /// The rows that came less often than this.
+    /// The rows that came less often than this, but for sights that came often enough all the same.
     pub fn rarer_than(&self, fewest: u64) -> Vec<String> {
-        self.rows().into_iter().filter(|(_, count)| *count < fewest).map(|(label, _)| label).collect()
+        let sights = Sight::ALL.iter().zip(&self.sights);
+        let enough: Vec<String> =
+            sights.filter(|(sight, &count)| count >= sight.enough()).map(|(sight, _)| label(*sight)).collect();
+        let rare = self.rows().into_iter().filter(|(_, count)| *count < fewest).map(|(label, _)| label);
+        rare.filter(|label| !enough.contains(label)).collect()
     }
 
     fn rows(&self) -> Vec<(String, u64)> {
@@ -360,16 +390,28 @@ impl Histogram {
                 rows.push((format!("final by {rule}, {}", case.text()), count));
             }
         }
+        for (rule, sides) in RULE_NAMES.iter().zip(&self.settled) {
+            for (side, counts) in SIDES.iter().zip(sides) {
+                for (case, &count) in FILED.iter().zip(counts) {
+                    rows.push((format!("settled by {rule}, {side}: {}", case.text()), count));
+                }
+            }
+        }
         for (call, counts) in JUDGING.iter().zip(&self.versions) {
             for (case, &count) in VersionCase::ALL.iter().zip(counts) {
                 rows.push((format!("{call}, version: {}", case.text()), count));
             }
         }
         for (sight, &count) in Sight::ALL.iter().zip(&self.sights) {
-            rows.push((format!("seen: {}", sight.text()), count));
+            rows.push((label(*sight), count));
         }
         rows
     }
+}
+
+/// The label of a sight's row.
+fn label(sight: Sight) -> String {
+    format!("seen: {}", sight.text())
 }
 
 /// What a reply shows that is not refused: on an old book before its conversion, and after a conversion.

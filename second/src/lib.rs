@@ -2,8 +2,8 @@
 //! can be compared with those of the proved program.
 //!
 //! The first group of modules is the paper: blocks, EICs and ids, quantity text, sound books,
-//! opening and clock, rights, messages, submission and its looks, readings, conversion, listing. `plain_rule` is the
-//! matching rule for checking. The rest makes random calls, replays them and counts what decided.
+//! opening and clock, rights, messages, submission and its looks, readings, settled positions, conversion, listing.
+//! `plain_rule` is the matching rule for checking. The rest makes random calls, replays them and counts what decided.
 
 pub mod block;
 pub mod book;
@@ -20,6 +20,7 @@ pub mod plain_rule;
 pub mod quantity_text;
 pub mod readings;
 pub mod right;
+pub mod settlement;
 pub mod sound;
 pub mod submission;
 
@@ -34,6 +35,7 @@ pub mod external;
 pub mod final_case;
 pub mod generator;
 pub mod histogram;
+pub mod market;
 pub mod names;
 pub mod old_book;
 pub mod random;

@@ -168,7 +168,7 @@ fn histogram(seed: u64, calls: u64, streams: u64, fewest: u64) -> bool {
         let mut desk = Desk::new();
         let mut made = 0;
         while made < calls {
-            let record = generator.next(desk.book());
+            let record = generator.next(desk.book(), calls - made);
             let before = desk.book().to_vec();
             let reply = desk.answer(&record).expect("the generator keeps within the buffer");
             made += u64::from(record.is_call());

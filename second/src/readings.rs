@@ -42,11 +42,8 @@ pub fn final_value(book: &[u8], out_party: &[u8], in_party: &[u8], position: Pos
 
 /// The same in a book already found sound.
 pub fn final_in(book: &SoundBook, out_party: &[u8], in_party: &[u8], position: Position) -> (u8, u32) {
-    if position.0 == 0 || position.0 > u16::from(book.n()) {
-        return (NO_POSITION, 0);
-    }
-    if position.is_open(book.clock(), book.lead()) {
-        return (NOT_CLOSED, 0);
+    if let Some(number) = nothing_final_at(book, position) {
+        return (number, 0);
     }
     // At most two internal trades carry the pair, the seller's and the buyer's. One that is missing counts 0.
     let (mut sold, mut bought) = (None, None);
@@ -59,12 +56,23 @@ pub fn final_in(book: &SoundBook, out_party: &[u8], in_party: &[u8], position: P
     }
     match (sold, bought) {
         (None, None) => (UNKNOWN_PAIR, 0),
-        _ => (0, settled(book.rule(), sold.unwrap_or(0), bought.unwrap_or(0))),
+        _ => (0, by_rule(book.rule(), sold.unwrap_or(0), bought.unwrap_or(0))),
+    }
+}
+
+/// Why nothing is final at a position, if so: there is no such position, or it is not closed.
+pub fn nothing_final_at(book: &SoundBook, position: Position) -> Option<u8> {
+    if position.0 == 0 || position.0 > u16::from(book.n()) {
+        Some(NO_POSITION)
+    } else if position.is_open(book.clock(), book.lead()) {
+        Some(NOT_CLOSED)
+    } else {
+        None
     }
 }
 
 /// The final of a trade by the rule of its book.
-fn settled(rule: u8, sold: u32, bought: u32) -> u32 {
+fn by_rule(rule: u8, sold: u32, bought: u32) -> u32 {
     if rule == LESSER_RULE {
         sold.min(bought)
     } else {

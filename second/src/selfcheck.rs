@@ -1,6 +1,6 @@
 //! The self-check: the worked examples, then random calls with demand 3 and the looks held against the plain
-//! rule after every acceptance, and each wrong character, rule 6 and all that rests on rights against a reckoning of its
-//! own.
+//! rule after every acceptance, and each wrong character, rule 6, all that rests on rights and settled positions against
+//! a reckoning of their own.
 
 use std::collections::HashMap;
 
@@ -10,14 +10,17 @@ use crate::counts::{Position, Slot};
 use crate::desk::{Desk, Reply};
 use crate::examples::EXAMPLES;
 use crate::external;
+use crate::final_case::last_closed;
 use crate::generator::Generator;
 use crate::histogram::Histogram;
 use crate::identifier::is_well_formed_id;
+use crate::listing;
 use crate::looks::search;
 use crate::names;
 use crate::plain_rule::{self, Matching, PlainMark};
 use crate::random::Random;
 use crate::readings::{final_in, plain_marks, plain_run};
+use crate::settlement::{pairs, parties, settled_in, Settled};
 use crate::sound::is_sound;
 use crate::stream::Record;
 use crate::submission::{judge, submit, Verdict};
@@ -25,6 +28,9 @@ use crate::versions::kept_sender;
 
 /// How many finals are remembered for one opening, so that reading them again stays quick.
 const MOST_FINALS: usize = 200;
+
+/// Of so many large books that are met, one is looked at for its settled positions, so that this stays quick too.
+const LARGE_BOOKS: u64 = 20;
 
 /// What has legally happened to a book since it was opened or converted.
 #[derive(Default)]
@@ -45,6 +51,7 @@ struct Ledger {
     aside: Option<History>,
     verified: u64,
     finals_read_again: u64,
+    settlement: Settlement,
 }
 
 impl Ledger {
@@ -53,6 +60,7 @@ impl Ledger {
         if self.legal.book != before && self.aside.as_ref().map_or(false, |aside| aside.book == before) {
             self.aside.as_mut().into_iter().for_each(|aside| std::mem::swap(aside, &mut self.legal));
         }
+        self.settlement.observe(record, reply, after)?;
         if character_told(reply) != character_due(record, reply) {
             return Err("another character is told than the wrong one".into());
         }
@@ -204,6 +212,126 @@ impl Ledger {
             }
         }
     }
+}
+
+/// What settled positions come to: over each unbroken run of calls, and over all parties of each book that is met.
+#[derive(Default)]
+struct Settlement {
+    /// Over the calls since the last other record.
+    run: Settled,
+    rounds: u64,
+    /// The book that was looked at last.
+    book: Vec<u8>,
+    large_books: u64,
+    /// On how many books settled positions that are not all 0 were found to cancel.
+    books: u64,
+}
+
+impl Settlement {
+    /// Looks at one record and the buffer after it.
+    fn observe(&mut self, record: &Record, reply: &Reply, book: &[u8]) -> Result<(), String> {
+        match (record, reply) {
+            (Record::Settled { party, position }, Reply::Settled { number, settled }) => {
+                if (*number, *settled) != settled_due(book, party, *position) {
+                    return Err("a settled position is another than counting at the series gives".into());
+                }
+                self.run.bought += settled.bought;
+                self.run.sold += settled.sold;
+            }
+            _ => self.end_run()?,
+        }
+        if record.is_call() && self.book != book {
+            self.book = book.to_vec();
+            let large = book.len() > listing::MOST_BYTES;
+            self.large_books += u64::from(large);
+            if let Some(sound) = SoundBook::of(book).filter(|_| !large || self.large_books % LARGE_BOOKS == 1) {
+                self.books += u64::from(settled_positions_cancel(&sound)?);
+            }
+        }
+        Ok(())
+    }
+
+    /// When a run of calls has ended, as much was bought as was sold.
+    fn end_run(&mut self) -> Result<(), String> {
+        let run = std::mem::take(&mut self.run);
+        self.rounds += u64::from(run.bought > 0);
+        if run.bought == run.sold {
+            Ok(())
+        } else {
+            Err("over a round more or less is bought than is sold".into())
+        }
+    }
+}
+
+/// What a settled position is to be answered, by counting at the series.
+fn settled_due(book: &[u8], party: &[u8], position: u16) -> (u8, Settled) {
+    if !is_sound(book) {
+        return (1, Settled::default());
+    }
+    let day = block_at(book, 0);
+    if position == 0 || position > u16::from(day[1]) {
+        return (24, Settled::default());
+    }
+    if position > last_closed(day) {
+        return (25, Settled::default());
+    }
+    let counted = counted_at_series(book, Position(position));
+    (0, counted.into_iter().find(|(other, _)| party == *other).map_or(Settled::default(), |(_, sums)| sums))
+}
+
+/// What every party of a sound book has bought and sold at a position, without a list of pairs: a trade is counted at
+/// its seller's series, and at its buyer's where the seller has none. It is then 0 by either rule.
+fn counted_at_series(book: &[u8], position: Position) -> HashMap<Field, Settled> {
+    let trades: Vec<&Block> = blocks(book).skip(1).filter(|block| block[0] == 2 && block[4] == 2).collect();
+    let owner = |series: &Block| field(block_at(book, usize::from(u16_at(series, 6))), SENDER);
+    let filed: HashMap<(Field, Field, Field), u32> = trades
+        .iter()
+        .map(|series| ((owner(series), pair(series).0, pair(series).1), quantity(series, position)))
+        .collect();
+    let mut counted: HashMap<Field, Settled> = HashMap::new();
+    for series in trades {
+        let (in_party, out_party) = pair(series);
+        let of = |sender: Field| filed.get(&(sender, in_party, out_party)).copied();
+        let value = match (of(out_party), of(in_party)) {
+            (Some(_), Some(_)) if owner(series) == in_party => continue,
+            (Some(sold), _) if book[6] == 0 => sold,
+            (sold, bought) => sold.unwrap_or(0).min(bought.unwrap_or(0)),
+        };
+        counted.entry(in_party).or_default().bought += u64::from(value);
+        counted.entry(out_party).or_default().sold += u64::from(value);
+    }
+    counted
+}
+
+/// Document 02, C-20, on any sound book: at the first closed position, the last and one between, each pair's final is
+/// given, counting at the series gives each party the same sums, and over all parties they cancel. Tells whether not all
+/// of them are 0.
+fn settled_positions_cancel(book: &SoundBook) -> Result<bool, String> {
+    let last = last_closed(book.day());
+    let mut something = false;
+    for position in [1, last / 2 + 1, last].into_iter().filter(|_| last > 0).map(Position) {
+        if pairs(book).iter().any(|(out_party, in_party)| final_in(book, out_party, in_party, position).0 != 0) {
+            return Err("the final of a pair is not given at a closed position".into());
+        }
+        let counted = counted_at_series(book.bytes(), position);
+        let parties = parties(book);
+        if parties.len() != counted.len() {
+            return Err("there are other parties than those of the internal trades".into());
+        }
+        let mut total = 0;
+        for party in parties {
+            let (number, sums) = settled_in(book, &party, position);
+            if number != 0 || counted.get(&party) != Some(&sums) {
+                return Err("a settled position is another than counting at the series gives".into());
+            }
+            total += sums.bought as i64 - sums.sold as i64;
+            something |= sums != Settled::default();
+        }
+        if total != 0 {
+            return Err("settled positions do not cancel".into());
+        }
+    }
+    Ok(something)
 }
 
 /// The character that a reply tells.
@@ -553,7 +681,7 @@ fn checked_calls(seed: u64, calls: u64, histogram: &mut Histogram) -> Result<Led
     let mut before = Vec::new();
     let mut made = 0;
     while made < calls {
-        let record = generator.next(desk.book());
+        let record = generator.next(desk.book(), calls - made);
         before.clear();
         before.extend_from_slice(desk.book());
         let reply = desk.answer(&record).expect("the generator keeps within the buffer");
@@ -563,6 +691,7 @@ fn checked_calls(seed: u64, calls: u64, histogram: &mut Histogram) -> Result<Led
             .observe(&record, &reply, &before, desk.book())
             .map_err(|failure| format!("failed at call {made} of seed {seed}: {failure}"))?;
     }
+    ledger.settlement.end_run().map_err(|failure| format!("failed at the end of seed {seed}: {failure}"))?;
     Ok(ledger)
 }
 
@@ -584,8 +713,9 @@ pub fn run(seed: u64, calls: u64) -> bool {
             return false;
         }
         Ok(ledger) => println!(
-            "{calls} calls with seed {seed}; demand 3 held {} times, finals read again {} times",
-            ledger.verified, ledger.finals_read_again
+            "{calls} calls with seed {seed}; demand 3 held {} times, finals read again {} times, settled positions \
+             cancelled over {} rounds and in {} books",
+            ledger.verified, ledger.finals_read_again, ledger.settlement.rounds, ledger.settlement.books
         ),
     }
     print!("{histogram}");
@@ -607,6 +737,8 @@ mod tests {
             let ledger = checked_calls(seed, 20_000, &mut Histogram::new()).expect("all calls are well");
             assert!(ledger.verified > 1_000);
             assert!(ledger.finals_read_again > 100);
+            assert!(ledger.settlement.rounds > 100);
+            assert!(ledger.settlement.books > 500);
         }
     }
 }

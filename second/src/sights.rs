@@ -19,6 +19,7 @@ mod looks;
 pub mod marks;
 mod openings;
 pub mod rules;
+pub mod settlements;
 
 const FIFTEEN_ZEROS: [u8; 15] = [b'0'; 15];
 
@@ -308,6 +309,51 @@ cases! {
         ConvertedRight "converted, a right in the book",
         OldRight "old book before its conversion: a right entered",
         NewRight "after a conversion, nothing accepted since: a right entered",
+        SettledOnlyBuys "settled above 0, a party that only buys",
+        SettledOnlySells "settled above 0, a party that only sells",
+        SettledBoth "settled above 0 on both sides",
+        SettledNothing "settled 0 0, a party",
+        SettledNoSender "settled above 0, a party that is no sender",
+        SettledNoSenderNothing "settled 0 0, a party that is no sender",
+        SettledTurned "settled, a pair and the same turned round, both above 0",
+        SettledSeveralBought "settled, three pairs or more bought above 0",
+        SettledSeveralSold "settled, three pairs or more sold above 0",
+        SettledAboveOne "settled above the highest quantity",
+        SettledExternalToo "settled, an external series above 0 has the pair too",
+        SettledTrueMarks "settled above 0, marks and nets true",
+        SettledFalseMarks "settled above 0, a mark or net false",
+        SettledAbove32Bits "settled above 4,294,967,295",
+        SettledFirst "settled 0 at position 1",
+        SettledLastClosed "settled 0 at the last closed position, below n",
+        SettledLast "settled 0 at position n",
+        SettledFirstOpen "settled 25 at the first open position",
+        SettledLastOpen "settled 25 at position n",
+        SettledZeroth "settled 24 at position 0",
+        SettledNextToN "settled 24 at position n + 1",
+        SettledAboveN "settled 24 above n + 1",
+        SettledLowByte "settled 24 above 255, the low byte a closed position",
+        SettledUnsoundNowhere "settled 1, and position 0 or above n",
+        SettledNoTrades "settled 0 0, no internal trade in the book",
+        StrangerCode "settled 0 0, a name of sixteen characters that is no party's",
+        StrangerNear "settled 0 0, a name that differs from a party's in one character",
+        StrangerZeros "settled 0 0, a name of sixteen zero bytes",
+        StrangerExternal "settled 0 0, a party of external series alone",
+        StrangerHolder "settled 0 0, the holder of a right that is no party",
+        StrangerShort "settled 0 0, a party's name without its last character",
+        StrangerLong "settled 0 0, a party's name and a byte more",
+        StrangerLongest "settled 0 0, a name of 64 bytes",
+        StrangerEmpty "settled 0 0, an empty name",
+    }
+}
+
+impl Sight {
+    /// How often is enough, whatever is asked of other sights: a sum that 32 bits don't hold takes a round of 431
+    /// calls, one of which has it.
+    pub fn enough(self) -> u64 {
+        match self {
+            Sight::SettledAbove32Bits => 2,
+            _ => u64::MAX,
+        }
     }
 }
 
@@ -364,6 +410,9 @@ pub fn sights(record: &Record, reply: &Reply, before: &[u8], book: &[u8]) -> Vec
         (Record::Final { out_party, in_party, .. }, Reply::Final { number, value }) => {
             let given = if *number == 0 { final_given(out_party, in_party, *value, book) } else { Vec::new() };
             [given, externals::final_asked(out_party, in_party, *number, book)].concat()
+        }
+        (Record::Settled { party, position }, Reply::Settled { number, settled }) => {
+            settlements::asked(party, *position, *number, settled, book)
         }
         _ => plain_sight(reply).into_iter().collect(),
     }

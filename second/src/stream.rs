@@ -53,6 +53,7 @@ pub enum Record {
     OpenBy { rule: u8, opening: Opening },
     Convert,
     Right(Vec<u8>),
+    Settled { party: Vec<u8>, position: u16 },
 }
 
 /// Why reading stopped.
@@ -88,6 +89,7 @@ const TAG_JUDGE: u8 = 23;
 const TAG_OPEN_BY: u8 = 24;
 const TAG_CONVERT: u8 = 25;
 const TAG_RIGHT: u8 = 26;
+const TAG_SETTLED: u8 = 27;
 
 /// The fewest and the most bytes a body of this kind may have; nothing for an unknown tag.
 pub fn body_limits(tag: u8) -> Option<(usize, usize)> {
@@ -107,12 +109,13 @@ pub fn body_limits(tag: u8) -> Option<(usize, usize)> {
         TAG_CHECK | TAG_SEAL => (BLOCK_BYTES, BLOCK_BYTES),
         TAG_CODE => (1, 1),
         TAG_RIGHT => (0, MOST_RIGHT_BYTES),
+        TAG_SETTLED => (3, 3 + MOST_TEXT_BYTES),
         _ => return None,
     })
 }
 
 /// The calls: tag and word.
-pub const CALLS: [(u8, &str); 22] = [
+pub const CALLS: [(u8, &str); 23] = [
     (TAG_OPEN, "open"),
     (TAG_CLOCK, "clock"),
     (TAG_SUBMIT, "submit"),
@@ -135,6 +138,7 @@ pub const CALLS: [(u8, &str); 22] = [
     (TAG_OPEN_BY, "open_by"),
     (TAG_CONVERT, "convert"),
     (TAG_RIGHT, "right"),
+    (TAG_SETTLED, "settled"),
 ];
 
 /// The records that turn one book into another: a new length where it differs, then the blocks that
@@ -189,6 +193,7 @@ impl Record {
                 | Record::Sound
                 | Record::Judge(_)
                 | Record::Right(_)
+                | Record::Settled { .. }
         )
     }
 
@@ -235,6 +240,7 @@ impl Record {
             Record::OpenBy { .. } => TAG_OPEN_BY,
             Record::Convert => TAG_CONVERT,
             Record::Right(_) => TAG_RIGHT,
+            Record::Settled { .. } => TAG_SETTLED,
         }
     }
 
@@ -257,6 +263,10 @@ impl Record {
             Record::Final { out_party, in_party, position } => {
                 put_name(&mut body, out_party);
                 put_name(&mut body, in_party);
+                body.extend(position.to_le_bytes());
+            }
+            Record::Settled { party, position } => {
+                put_name(&mut body, party);
                 body.extend(position.to_le_bytes());
             }
             Record::Reader { number, message } => {
@@ -427,6 +437,7 @@ fn decode(tag: u8, body: &[u8]) -> Option<Record> {
         TAG_JUDGE => Record::Judge(fields.rest()),
         TAG_CONVERT => Record::Convert,
         TAG_RIGHT => Record::Right(fields.rest()),
+        TAG_SETTLED => Record::Settled { party: fields.name()?, position: fields.u16()? },
         _ => return None,
     };
     fields.0.is_empty().then_some(record)
@@ -457,6 +468,8 @@ mod tests {
             Record::Convert,
             Record::Right(Vec::new()),
             Record::Right(vec![4; 1_024]),
+            Record::Settled { party: Vec::new(), position: 0 },
+            Record::Settled { party: vec![68; 64], position: 65_535 },
         ];
         let mut stream = Vec::new();
         for record in &records {
@@ -477,6 +490,12 @@ mod tests {
     }
 
     #[test]
+    fn the_position_of_a_settled_position_stands_behind_its_party() {
+        let read = read(&[27, 5, 0, 0, 0, 2, 65, 66, 1, 2]).unwrap();
+        assert_eq!(read, Some(Record::Settled { party: vec![65, 66], position: 513 }));
+    }
+
+    #[test]
     fn malformed_streams_are_noticed() {
         assert!(matches!(read(&[]), Ok(None)));
         assert!(matches!(read(&[0, 0, 0, 0, 0]), Err(Stop::Malformed)));
@@ -485,7 +504,11 @@ mod tests {
         assert!(matches!(read(&[24, 200, 0, 0, 0]), Err(Stop::Malformed)));
         assert!(matches!(read(&[26, 1, 4, 0, 0]), Err(Stop::Malformed)));
         assert!(matches!(read(&[26, 1, 0, 0, 0]), Err(Stop::Malformed)));
-        assert!(matches!(read(&[27, 0, 0, 0, 0]), Err(Stop::Malformed)));
+        assert!(matches!(read(&[27, 2, 0, 0, 0, 0, 0]), Err(Stop::Malformed)));
+        assert!(matches!(read(&[27, 68, 0, 0, 0]), Err(Stop::Malformed)));
+        assert!(matches!(read(&[27, 3, 0, 0, 0, 1, 65, 0]), Err(Stop::Malformed)));
+        assert!(matches!(read(&[27, 4, 0, 0, 0, 0, 0, 0, 0]), Err(Stop::Malformed)));
+        assert!(matches!(read(&[28, 0, 0, 0, 0]), Err(Stop::Malformed)));
         assert!(matches!(read(&[25, 1, 0, 0, 0, 0]), Err(Stop::Malformed)));
         assert!(matches!(read(&[3]), Err(Stop::Malformed)));
         assert!(matches!(read(&[3, 0, 0, 0]), Err(Stop::Malformed)));

@@ -1,7 +1,7 @@
 -- Every definition that a case computes through. To name one of these on an `unfolding` line opens its whole group; `paper` opens all but demand 3.
 use Rattle.laws.specs.Base.{ℕ}
 use Rattle.laws.specs.Tests.{_and_, _or_, neg, is, less, upto, below}
-use Rattle.laws.specs.Lists.{same, further, find, place, has, every, apart, count, keep, until, total}
+use Rattle.laws.specs.Lists.{same, further, find, place, has, every, apart, count, keep, until, total, once}
 use Rattle.laws.specs.Bytes.{part, written, value, little, number}
 use Rattle.laws.specs.Cut.{chunks, cut, join}
 use Rattle.laws.specs.Order.{first as firstRefusal, along}
@@ -20,6 +20,7 @@ use Rattle.paper.specs.Nets.{comesIn, goesOut, bought, sold, netOf, netsTo, net
 use Rattle.paper.specs.Acceptance.{slotFor, senderKept, replaced, renewed, fresh, placed, touched, remarked, usedAfter, accepted, submitted}
 use Rattle.paper.specs.Looks.{slotsTo, visited, foundFor, look, lookedOver, noneFound, found, partnersFound, looked, submitAnswer}
 use Rattle.paper.specs.Finals.{lesserOf, finalOf, held, isHeld, heldAt, finalIn, final}
+use Rattle.paper.specs.Settled.{isTradeSeries, appearing, parties, tradePairs, buyerOf, sellerOf, finalOfPair, boughtBy, soldBy, settledIn, settled}
 use Rattle.paper.specs.Opening.{dayBlockOf, openingAllowed, openNumber, openAnswer, opened}
 use Rattle.paper.specs.Clock.{dayState, advanced, clockAnswer, clockMoved}
 use Rattle.paper.specs.Readings.{isStoredAs, storedAs, markFound, markAnswer, acceptedBlock}
@@ -33,7 +34,7 @@ use Rattle.paper.specs.Calls.{step, run}
 
 -- the crate of general definitions
 unfoldable pub general : ℕ
-unfolding _and_ _or_ neg is less upto below same further find place has every apart count keep until total part written value little number chunks cut join firstRefusal along
+unfolding _and_ _or_ neg is less upto below same further find place has every apart count keep until total once part written value little number chunks cut join firstRefusal along
 general = 0
 
 -- "Blocks"
@@ -58,7 +59,7 @@ orderOfChecks = 0
 
 -- "Marks and finals", and what an acceptance writes
 unfoldable pub marksAndFinals : ℕ
-unfolding isCounterpart counterpart counterpartSlot differenceFrom firstDifference differences markOf markIn stateOfMark stateCode markCode comesIn goesOut bought sold netOf netsTo netsOf slotFor senderKept replaced renewed fresh placed trade tradeIs isSeriesWith isTradeOf touched remarked usedAfter accepted submitted slotsTo visited foundFor look lookedOver noneFound found partnersFound looked submitAnswer lesserOf finalOf held isHeld heldAt finalIn final
+unfolding isCounterpart counterpart counterpartSlot differenceFrom firstDifference differences markOf markIn stateOfMark stateCode markCode comesIn goesOut bought sold netOf netsTo netsOf slotFor senderKept replaced renewed fresh placed trade tradeIs isSeriesWith isTradeOf touched remarked usedAfter accepted submitted slotsTo visited foundFor look lookedOver noneFound found partnersFound looked submitAnswer lesserOf finalOf held isHeld heldAt finalIn final isTradeSeries appearing parties tradePairs buyerOf sellerOf finalOfPair boughtBy soldBy settledIn settled
 marksAndFinals = 0
 
 -- "Other calls"

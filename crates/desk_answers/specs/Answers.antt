@@ -27,12 +27,13 @@ use Rattle.desk_text.specs.Put.{Put}
 use Rattle.desk_text.specs.Words.{wordNumbered}
 use Rattle.desk_text.specs.Arguments.{idField, byteValue, wordValue}
 use Rattle.desk_lines.specs.Lines.{verdictLine, openLine, clockLine, conversionLine, enterLine, markLine, blockLine, finalLine, plainLine, eicLine, quantityLine}
+use Rattle.settlement_text.specs.Settlement.{settlementText}
 use Rattle.desk_answers.specs.declared.Told.{Told}
 use Rattle.desk_answers.specs.declared.Numbers.{Numbers}
 use Rattle.desk_answers.specs.declared.Change.{Change}
 use Rattle.desk_answers.specs.declared.Change.the-variants.{Open, Clock, Submit, Convert, Enter}
 use Rattle.desk_answers.specs.declared.Question.{Question}
-use Rattle.desk_answers.specs.declared.Question.the-variants.{Mark, Block, Final, Plain, List, Eic, Kw}
+use Rattle.desk_answers.specs.declared.Question.the-variants.{Mark, Block, Final, Settle, Plain, List, Eic, Kw}
 
 -- the answer has this number; its line, in a buffer that was x and is y, is this text
 pub record Tells (number : ℕ) (said : Bytes) (r : Told) (x y : Bytes) : Type 0 where
@@ -104,6 +105,7 @@ lineOf Mark book words = markLine (markAnswer book (wordNumbered 3 words) (idFie
 lineOf Block book words =
     blockLine ((markAnswer book (wordNumbered 3 words) (idField (wordNumbered 4 words))) .number) (acceptedBlock book (wordNumbered 3 words) (idField (wordNumbered 4 words)))
 lineOf (Final position) book words = finalLine (final book (wordNumbered 3 words) (wordNumbered 4 words) position) (ruleOf (dayBlock book))
+lineOf (Settle position) book words = settlementText book position
 lineOf Plain book words = plainLine (plainRun book)
 lineOf List book words = listing book
 lineOf Eic book words = eicLine (wordNumbered 2 words) (eicNumber (wordNumbered 2 words))
@@ -115,6 +117,7 @@ Answered List book words r x y = (r ≡ textLength (listing book) (length x)) ×
 Answered Mark book words r x y = Put 0 (lineOf Mark book words) r x y
 Answered Block book words r x y = Put 0 (lineOf Block book words) r x y
 Answered (Final position) book words r x y = Put 0 (lineOf (Final position) book words) r x y
+Answered (Settle position) book words r x y = Put 0 (lineOf (Settle position) book words) r x y
 Answered Plain book words r x y = Put 0 (lineOf Plain book words) r x y
 Answered Eic book words r x y = Put 0 (lineOf Eic book words) r x y
 Answered Kw book words r x y = Put 0 (lineOf Kw book words) r x y

@@ -27,12 +27,13 @@ pub enum Change {
     Enter,
 }
 
-// What is asked: of a book, the mark or the block of a series by its sender and id, a final value by seller, buyer and position, or all of it; of no
-// book, a code or a quantity.
+// What is asked: of a book, the mark or the block of a series by its sender and id, a final value by seller, buyer and position, the settled
+// positions at a position, or all of it; of no book, a code or a quantity.
 pub enum Question {
     Mark,
     Block,
     Final(usize),
+    Settle(usize),
     Plain,
     List,
     Eic,

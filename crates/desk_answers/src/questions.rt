@@ -73,6 +73,7 @@ pub fn answer(question: Question, book: &[u8], words: &[u8], line: &mut [u8]) ->
         Question::Mark => mark_told(book, words, line),
         Question::Block => block_told(book, words, line),
         Question::Final(position) => final_told(book, words, position, line),
+        Question::Settle(position) => settlement_text::settlement(book, Position(position), line),
         Question::Plain => plain_told(book, line),
         Question::List => listing_text::listing(book, line),
         Question::Eic => eic_told(words, line),

@@ -254,8 +254,9 @@ pub fn change(what: Change, path: &[u8], given: &[u8]) {
 
 // ---- a reading
 
+// The longest answer is that of the settled positions: at most 1,000 parties, none with a line of more than 80 bytes.
 fn answer_in(question: Question, book: &[u8], words: &[u8]) {
-    let mut line = [0u8; 5591];
+    let mut line = [0u8; 81920];
     let k = desk_answers::questions::answer(question, book, words, &mut line);
     say(part_of(&line, 0, k));
 }

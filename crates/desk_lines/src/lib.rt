@@ -82,7 +82,7 @@ fn put_answer_of(line: &mut [u8], number: u32) -> usize
 }
 
 // Of a call that tells more only where it is accepted: the line of a refusal ends here.
-fn put_telling(line: &mut [u8], number: u32) -> usize
+pub fn put_telling(line: &mut [u8], number: u32) -> usize
     ensures { λ r. ⌜ Put 0 (telling number []) r (now (line .entry)) (now (line .exit)) ⌝ }
 {
     let behind = put_answer_of(line, number);

@@ -17,7 +17,7 @@ commandFrom zero k word = 0
 commandFrom (suc left) k word = cond (same (lineNumbered k commands) word) k (commandFrom left (k + 1) word)
 
 unfoldable pub commandNumber : Bytes → ℕ
-commandNumber word = commandFrom 14 1 word
+commandNumber word = commandFrom 15 1 word
 
 -- an id in its field of sixteen bytes, zero bytes behind it; zero bytes alone, which are no series' id, stand for every longer one
 unfoldable pub idField : Bytes → Bytes

@@ -18,9 +18,13 @@ use Rattle.desk_text.specs.declared.MinuteRead.{MinuteRead}
 unfoldable pub numberText : ℕ → Bytes
 numberText x = lastDigits (placesBy 19 x) x
 
+-- a less b, with a minus where that is below 0
+unfoldable pub differenceText : (a b : ℕ) → Bytes
+differenceText a b = cond (less a b) (45 ∷ numberText (b - a)) (numberText (a - b))
+
 -- a minute as the day block keeps it, told from the day's start: a minus before the day
 unfoldable pub minuteText : ℕ → Bytes
-minuteText m = cond (less m 10080) (45 ∷ numberText (10080 - m)) (numberText (m - 10080))
+minuteText m = differenceText m 10080
 
 -- ---- read
 

@@ -114,4 +114,5 @@ commands =
     ∷ text "commission"
     ∷ text "convert"
     ∷ text "right"
+    ∷ text "settle"
     ∷ [])

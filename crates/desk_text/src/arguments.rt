@@ -16,7 +16,7 @@ fn is_command(word: &[u8], k: usize) -> bool
     ensures { λ r. ⌜ r ≡ same (lineNumbered k commands) (now (word .entry)) ⌝ }
 {
     let words =
-        b"\nopen\nclock\nsubmit\nmark\nblock\nfinal\nplain\nlist\nmessage\neic\nkw\ncommission\nconvert\nright\n";
+        b"\nopen\nclock\nsubmit\nmark\nblock\nfinal\nplain\nlist\nmessage\neic\nkw\ncommission\nconvert\nright\nsettle\n";
     same(line_numbered(words, k), word)
 }
 
@@ -25,7 +25,7 @@ pub fn command_number(word: &[u8]) -> usize
     ensures { λ r. ⌜ r ≡ commandNumber (now (word .entry)) ⌝ }
 {
     let mut k = 1;
-    while k < 15 {
+    while k < 16 {
         if is_command(word, k) {
             return k;
         }

@@ -3,7 +3,7 @@ ghost use mathlib.Core.Path.{_≡_};
 ghost use Prim.Native.Nat.{_≤_};
 ghost use Rattle.paper.specs.QuantityText.{lastDigits};
 ghost use Rattle.desk_text.specs.Put.{Put};
-ghost use Rattle.desk_text.specs.Numbers.{numberText, minuteText, noNumber, numberRead, minuteAfter, minuteBefore, minuteRead};
+ghost use Rattle.desk_text.specs.Numbers.{numberText, differenceText, minuteText, noNumber, numberRead, minuteAfter, minuteBefore, minuteRead};
 use crate::MinuteRead;
 use crate::NumberRead;
 use crate::put::put;
@@ -30,16 +30,22 @@ pub fn put_number(line: &mut [u8], at: usize, x: usize) -> usize
     put_digits(line, at, places(19, x), x)
 }
 
+// One number less another, with a minus where that is below 0.
+pub fn put_difference(line: &mut [u8], at: usize, a: usize, b: usize) -> usize
+    ensures { λ r. ⌜ Put at (differenceText a b) r (now (line .entry)) (now (line .exit)) ⌝ }
+{
+    if a < b {
+        let minus = put(line, at, b"-");
+        return put_number(line, minus, b - a);
+    }
+    put_number(line, at, a - b)
+}
+
 // Minutes are told from the day's start, which the day block keeps as 10,080.
 pub fn put_minute(line: &mut [u8], at: usize, minute: Minute) -> usize
     ensures { λ r. ⌜ Put at (minuteText (minute .0)) r (now (line .entry)) (now (line .exit)) ⌝ }
 {
-    let m = minute.0 as usize;
-    if m < 10080 {
-        let minus = put(line, at, b"-");
-        return put_number(line, minus, 10080 - m);
-    }
-    put_number(line, at, m - 10080)
+    put_difference(line, at, minute.0 as usize, 10080)
 }
 
 fn no_number() -> NumberRead

@@ -21,6 +21,7 @@ use Rattle.export.proofs.book.tetherbay_submit.Reads as submit
 use Rattle.export.proofs.book.tetherbay_judge.Reads as judge
 use Rattle.export.proofs.book.tetherbay_mark.Reads as mark
 use Rattle.export.proofs.book.tetherbay_final.Reads as final
+use Rattle.export.proofs.book.tetherbay_settled.Reads as settled
 use Rattle.export.proofs.book.tetherbay_plain_run.Reads as plain-run
 use Rattle.export.proofs.book.tetherbay_listing.Reads as listing
 use Rattle.export.proofs.parts.tetherbay_accepted_block.Reads as accepted-block
@@ -100,6 +101,9 @@ mark-determined k a answer other s t p q = p .0 ∙ sym (q .0)
 
 pub final-determined : OneAnswer final.Post
 final-determined k a answer other s t p q = p .0 ∙ sym (q .0)
+
+pub settled-determined : OneAnswer settled.Post
+settled-determined k a answer other s t p q = p ∙ sym q
 
 pub plain-run-determined : OneAnswer plain-run.Post
 plain-run-determined k a answer other s t p q = p .0 ∙ sym (q .0)

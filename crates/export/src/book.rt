@@ -8,6 +8,7 @@ ghost use Rattle.paper.specs.Conversion.{conversionNumber, converted};
 ghost use Rattle.paper.specs.Rights.{enterNumber, entered};
 ghost use Rattle.paper.specs.Readings.{markAnswer};
 ghost use Rattle.paper.specs.Finals.{final};
+ghost use Rattle.paper.specs.Settled.{settled};
 ghost use Rattle.paper.specs.PlainRun.{plainRun};
 ghost use Rattle.paper.specs.Listing.{listing};
 ghost use Rattle.listing_text.specs.Text.{textLength, textInto};
@@ -23,6 +24,7 @@ use paper::OpenAnswer;
 use paper::PlainRunAnswer;
 use paper::Position;
 use paper::Rule;
+use paper::SettledAnswer;
 use paper::SubmitAnswer;
 use paper::Verdict;
 
@@ -127,6 +129,14 @@ pub extern "C" fn tetherbay_final(
     ensures { λ r. ⌜ FinalByMessages (now (book .entry)) (now (seller .entry)) (now (buyer .entry)) position r ⌝ }
 {
     readings::final_value(book, seller, buyer, Position(position))
+}
+
+// The two sums of a party's settled position.
+#[no_mangle]
+pub extern "C" fn tetherbay_settled(book: &[u8], party: &[u8], position: usize) -> SettledAnswer
+    ensures { λ r. ⌜ r ≡ settled (now (book .entry)) (now (party .entry)) position ⌝ }
+{
+    settling::settled(book, party, Position(position))
 }
 
 #[no_mangle]

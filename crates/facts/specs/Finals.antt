@@ -1,6 +1,6 @@
 -- What the two rules choose: the lesser is the greatest number that is above neither side, so that a lone side settles at 0; by the seller's rule a book has the finals that it
 -- had before a rule was named, and a day block of that time names it.
-use Rattle.laws.specs.Base.{_≡_, refl, ap, _∙_, Bool, true, cond, none, List, _++_, ℕ, _-_, _≤_, arith, le-refl}
+use Rattle.laws.specs.Base.{_≡_, refl, ap, _∙_, Bool, true, false, true≢false, cond, Option, none, some, List, _++_, ℕ, _-_, _≤_, arith, le-refl}
 use Rattle.laws.specs.Tests.{_and_, _or_, neg, is, less}
 use Rattle.laws.specs.Tests.Laws.{split, and-left, and-right, and-both, or-else, is-yes, less-yes, less-no}
 use Rattle.laws.specs.Bytes.{part, number}
@@ -70,6 +70,13 @@ none-named n lead day area receiver = refl
 missing-counts-0 : (k : ℕ) → heldAt none k ≡ 0
 unfolding heldAt
 missing-counts-0 k = entry-nothing k
+
+-- where neither side has a series, both count 0
+pub nothing-held : (rule : Rule) (k : ℕ) (sellers buyers : Option Bytes) → isHeld sellers ≡ false → isHeld buyers ≡ false → finalOf rule (heldAt sellers k) (heldAt buyers k) ≡ 0
+unfolding isHeld finalOf lesserOf
+nothing-held rule k none none s b = rw (missing-counts-0 k) (split (sameRule rule lesserRule) (λ t. rw t (split (less 0 0) (λ u. rw u) (λ u. rw u))) (λ t. rw t))
+nothing-held rule k none (some q) s b = absurd (true≢false b)
+nothing-held rule k (some q) buyers s b = absurd (true≢false s)
 
 pub lone-seller-final : (day : Block) (us : List Block) (seller buyer : Bytes) (position : ℕ) → ruleOf day ≡ lesserRule → held us buyer (buyer ++ seller) ≡ none
     → (finalIn day us seller buyer position) .kilowatts ≡ 0

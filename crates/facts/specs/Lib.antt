@@ -34,3 +34,5 @@ pub mod KeptMessages
 pub mod Unchanged
 -- what entering a right says (C-14)
 pub mod Rights
+-- what the sums of settled positions say (C-20)
+pub mod Settled

@@ -8,6 +8,7 @@ pub mod Apart
 pub mod Count
 pub mod Keep
 pub mod Both
+pub mod Once
 
 -- two lists of numbers are the same
 unfoldable pub same : List ℕ → List ℕ → Bool
@@ -83,3 +84,8 @@ module _ {A : Type 0} where
   abbrev pub All : (A → Type 0) → List A → Type 0
   All P [] = Unit {0}
   All P (x ∷ xs) = P x × All P xs
+
+-- each of some lists of numbers once, where it stands first
+unfoldable pub once : List (List ℕ) → List (List ℕ)
+once [] = []
+once (x ∷ xs) = x ∷ keep (λ y. neg (same x y)) (once xs)

@@ -56,7 +56,7 @@ fn counterpart_among(us: &[u8], x: &[u8], heads: &[u16; 1024], nexts: &[u16; 100
 }
 
 // The slot of the other party's series; 0 where it has none, as an external schedule never has.
-fn counterpart_slot(us: &[u8], x: &[u8], heads: &[u16; 1024], nexts: &[u16; 1000]) -> Slot
+pub fn counterpart_slot(us: &[u8], x: &[u8], heads: &[u16; 1024], nexts: &[u16; 1000]) -> Slot
     requires { ⌜ (length (now us) / 512 ≤ 1000) × Links seriesIn (cut 512 (now us)) 0 (now heads) (now nexts) ⌝ }
     ensures { λ r. ⌜ r .0 ≡ counterpartSlot (cut 512 (now (us .entry))) (now (x .entry)) ⌝ }
 {

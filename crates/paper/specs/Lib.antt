@@ -19,6 +19,7 @@ pub mod Nets
 pub mod Acceptance
 pub mod Looks
 pub mod Finals
+pub mod Settled
 -- Other calls
 pub mod Opening
 pub mod Clock

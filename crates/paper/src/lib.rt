@@ -89,6 +89,15 @@ pub struct FinalAnswer {
     pub kilowatts: u32,
 }
 
+// The two sums of a party's settled position, in kilowatts: the finals of the pairs in which it buys and of those in which it sells. A book of 1,001 blocks holds
+// sums that pass 32 bits.
+#[repr(C)]
+pub struct SettledAnswer {
+    pub number: u32,
+    pub bought: u64,
+    pub sold: u64,
+}
+
 #[repr(C)]
 pub struct PlainRunAnswer {
     pub number: u32,

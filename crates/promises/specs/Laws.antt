@@ -39,3 +39,5 @@ pub mod Limits
 -- isolation, determinacy
 pub mod Contents
 pub mod Isolation
+-- settled positions
+pub mod Settled

@@ -1,19 +1,21 @@
 -- THE PAGE OF PROMISES. Each promise is stated in the words of `paper`, with a few more that stand in Words; each proof is one line that cites the file that carries
 -- the weight.
-use Rattle.laws.specs.Base.{_≡_, true, false, none, some, Option·getD, Option·map, List, [], _∷_, _++_, ℕ, _+_, _*_, _≤_, _<_, length, drop, getD}
-use Rattle.laws.specs.Lists.{find, nth, All}
+use Rattle.laws.specs.Base.{_≡_, true, false, none, some, Option·getD, Option·map, List, [], _∷_, _++_, ℕ, _+_, _-_, _*_, _≤_, _<_, length, drop, getD}
+use Rattle.laws.specs.Tests.{_or_}
+use Rattle.laws.specs.Lists.{same, find, nth, has, apart, keep, total, All}
 use Rattle.laws.specs.Bytes.{little}
-use Rattle.paper.specs.Layout.{Bytes, Block, nOf, limit, area, ruleOf, sellersRule, lesserRule, sender, nets, net, sendersSlot, pair, key, mark, partner, quantities, quantity}
+use Rattle.paper.specs.Layout.{Bytes, Block, nOf, limit, area, ruleOf, sellersRule, lesserRule, sender, nets, net, sendersSlot, inParty, outParty, pair, key, mark, partner, quantities, quantity}
 use Rattle.paper.specs.Book.{dayBlock, used, freeSlots, isSender, isSeries, isRight, isTrade, trade, isRightOf, isSenderBlockOf, slotOf, isSeriesOf, isSeriesWith, isTradeOf, ownSender, ownSeries, ownRights}
 use Rattle.paper.specs.Sound.{sound}
 use Rattle.paper.specs.Message.{headOf, seriesOf}
-use Rattle.paper.specs.Rules.{numberOf, sumOn, verdict}
+use Rattle.paper.specs.Rules.{numberOf, sumOn, closed, verdict}
 use Rattle.paper.specs.Marks.{isCounterpart, counterpartSlot, firstDifference, differences, markOf}
 use Rattle.paper.specs.Nets.{bought, sold, netOf}
 use Rattle.paper.specs.Acceptance.{accepted, submitted}
 use Rattle.paper.specs.Looks.{found, partnersFound, submitAnswer}
 use Rattle.paper.specs.PlainRun.{plainRun}
 use Rattle.paper.specs.Finals.{lesserOf, finalOf, held, final}
+use Rattle.paper.specs.Settled.{isTradeSeries, parties, tradePairs, buyerOf, sellerOf, finalOfPair, boughtBy, soldBy, settled}
 use Rattle.paper.specs.Readings.{markAnswer, acceptedBlock}
 use Rattle.paper.specs.Opening.{Opening, openNumber, opened}
 use Rattle.paper.specs.Clock.{clockAnswer, clockMoved}
@@ -30,6 +32,7 @@ use Rattle.facts.specs.Marks.{Agree, Differ, no-difference-agree, difference-di
 use Rattle.facts.specs.Nets.{SignedSum, net-signed}
 use Rattle.facts.specs.Looks.{found-counterpart}
 use Rattle.facts.specs.Finals.{lesser-below-sellers, lesser-below-buyers, lesser-greatest, final-by-sellers, final-by-lesser}
+use Rattle.facts.specs.Settled.{every-buyer-is-a-party, every-seller-is-a-party, every-party-appears, every-trade-is-counted, parties-apart, pairs-apart}
 use Rattle.promises.specs.Laws.Conversion.{series-stays, sender-stays, right-stays, true-book-stays}
 use Rattle.promises.specs.Laws.Entering.{used-entered, day-block-entered, rest-entered, entered-sound}
 use Rattle.promises.specs.Laws.Finals.{rule-stays, final-stays}
@@ -42,6 +45,7 @@ use Rattle.promises.specs.Laws.Others.{others-kept, right-kept, rest-kep
 use Rattle.promises.specs.Laws.PlainMarks.{sender-named, mark-plain, partner-plain, says-yes}
 use Rattle.promises.specs.Laws.ReadBack.{day-block-accepted}
 use Rattle.promises.specs.Laws.Refusals.{opening-refused, clock-refused, submission-refused}
+use Rattle.promises.specs.Laws.Settled.{settled-sums, sums-given-cancel, positions-cancel, finals-given}
 use Rattle.promises.specs.Laws.Soundness.{opened-sound, opened-rule, moved-sound, used-moved, submitted-sound}
 use Rattle.promises.specs.Laws.ConvertedSlots.{used-converted-length, day-block-converted, converted-book-length, rest-converted}
 use Rattle.promises.specs.Laws.SoundConverted.{converted-sound}
@@ -380,4 +384,50 @@ pub sums-of-rule-19-are-small : (book : Bytes) → sound book ≡ true → (slot
     → k < nOf (dayBlock book) → sumOn r seen k ≤ limit r k → quantity y k ≤ 9999999 → sumOn r seen k + quantity y k ≤ 19999998
 sums-of-rule-19-are-small book s = sum-small book (sound-says book s)
 
--- ---- 11. The useless versions contradict these promises: see the crate `useless`
+-- ---- 11. Settled quantities cancel (C-20)
+-- At one quarter-hour a party's settled position is what it buys less what it sells, in finals, each pair once: `settled` gives the two sums. Whether marks and nets are true
+-- is not asked: this holds of any sound book, whoever made it, and by whichever of the two rules it settles.
+
+-- at a closed position every party is given its two sums
+pub settled-positions-are-given : (book : Bytes) → sound book ≡ true → (position : ℕ) → 1 ≤ position → position ≤ nOf (dayBlock book) → closed (dayBlock book) position ≡ true
+    → (party : Bytes) → settled book party position
+    ≡ record { number = 0; bought = boughtBy (dayBlock book) (used book) position party; sold = soldBy (dayBlock book) (used book) position party }
+settled-positions-are-given = settled-sums
+
+-- and over the list of parties, each once, as much is bought as is sold
+pub settled-quantities-cancel : (book : Bytes) → sound book ≡ true → (position : ℕ) → 1 ≤ position → position ≤ nOf (dayBlock book) → closed (dayBlock book) position ≡ true
+    → total (λ party. (settled book party position) .bought) (parties (used book)) ≡ total (λ party. (settled book party position) .sold) (parties (used book))
+settled-quantities-cancel = sums-given-cancel
+
+-- so the settled positions give 0. One may be below 0, which ℕ has no number for: those above 0 are together as much as those below 0, as `-` stops at 0 here
+pub settled-positions-give-0 : (book : Bytes) → sound book ≡ true → (position : ℕ) → 1 ≤ position → position ≤ nOf (dayBlock book) → closed (dayBlock book) position ≡ true
+    → total (λ party. (settled book party position) .bought - (settled book party position) .sold) (parties (used book))
+    ≡ total (λ party. (settled book party position) .sold - (settled book party position) .bought) (parties (used book))
+settled-positions-give-0 = positions-cancel
+
+-- The lists: every buyer and every seller of a pair is in the list of parties, every party there is one of an A02 series, and none stands there twice
+pub every-buyer-is-in-the-list : (us : List Block) → All (λ p. has (same (buyerOf p)) (parties us) ≡ true) (tradePairs us)
+every-buyer-is-in-the-list = every-buyer-is-a-party
+
+pub every-seller-is-in-the-list : (us : List Block) → All (λ p. has (same (sellerOf p)) (parties us) ≡ true) (tradePairs us)
+every-seller-is-in-the-list = every-seller-is-a-party
+
+pub every-party-is-one-of-a-trade : (us : List Block) → All (λ e. has (λ x. same (inParty x) e or same (outParty x) e) (keep isTradeSeries us) ≡ true) (parties us)
+every-party-is-one-of-a-trade = every-party-appears
+
+pub no-party-is-counted-twice : (us : List Block) → apart same (parties us) ≡ true
+no-party-is-counted-twice = parties-apart
+
+-- every A02 series has its pair in the list of pairs, and none stands there twice
+pub every-pair-is-counted : (us : List Block) → All (λ x. has (same (pair x)) (tradePairs us) ≡ true) (keep isTradeSeries us)
+every-pair-is-counted = every-trade-is-counted
+
+pub no-pair-is-counted-twice : (us : List Block) → apart same (tradePairs us) ≡ true
+no-pair-is-counted-twice = pairs-apart
+
+-- what is added up are finals that the call for a final value gives, never a refusal's 0
+pub finals-in-the-sums-are-given : (book : Bytes) → sound book ≡ true → (position : ℕ) → 1 ≤ position → position ≤ nOf (dayBlock book) → closed (dayBlock book) position ≡ true
+    → All (λ p. final book (sellerOf p) (buyerOf p) position ≡ record { number = 0; kilowatts = finalOfPair (dayBlock book) (used book) position p }) (tradePairs (used book))
+finals-in-the-sums-are-given = finals-given
+
+-- ---- 12. The useless versions contradict these promises: see the crate `useless`

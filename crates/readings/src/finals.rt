@@ -64,7 +64,7 @@ fn held(us: &[u8], party: &[u8], seller: &[u8], buyer: &[u8]) -> Slot
 }
 
 // A missing series counts 0.
-fn held_at(us: &[u8], slot: Slot, k: usize) -> u32
+pub fn held_at(us: &[u8], slot: Slot, k: usize) -> u32
     requires { ⌜ k < 255 ⌝ }
     ensures { λ r. ⌜ r ≡ entry (quantities (numbered (cut 512 (now (us .entry))) (slot .0))) k ⌝ }
 {
@@ -80,7 +80,7 @@ fn lesser_of(sellers: u32, buyers: u32) -> u32
 
 // The one place that chooses. A series that is missing comes as 0: so a lone side settles at 0 by the lesser rule, and a counterpart that comes late,
 // which rule 14 holds to 0 at closed positions, changes nothing.
-fn final_of(rule: Rule, sellers: u32, buyers: u32) -> u32
+pub fn final_of(rule: Rule, sellers: u32, buyers: u32) -> u32
     ensures { λ r. ⌜ r ≡ finalOf rule sellers buyers ⌝ }
 {
     if rule.0 == LESSER.0 {

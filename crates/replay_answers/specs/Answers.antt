@@ -5,7 +5,7 @@ use mathlib.Core.Bool.{Bool, cond}
 use mathlib.Core.List.{List, [], _∷_, _++_}
 use Prim.Native.Nat.{ℕ, zero, suc, _+_}
 use lib.ListN.{length, drop}
-use Rattle.laws.specs.Tests.{_or_, is, less}
+use Rattle.laws.specs.Tests.{_and_, _or_, is, less}
 use Rattle.laws.specs.Bytes.{number}
 use Rattle.paper.specs.declared.OpenAnswer.{OpenAnswer}
 use Rattle.paper.specs.declared.Rule.{Rule}
@@ -14,6 +14,7 @@ use Rattle.paper.specs.declared.Verdict.{Verdict}
 use Rattle.paper.specs.declared.SubmitAnswer.{SubmitAnswer}
 use Rattle.paper.specs.declared.MarkAnswer.{MarkAnswer}
 use Rattle.paper.specs.declared.FinalAnswer.{FinalAnswer}
+use Rattle.paper.specs.declared.SettledAnswer.{SettledAnswer}
 use Rattle.paper.specs.declared.PlainRunAnswer.{PlainRunAnswer}
 use Rattle.paper.specs.declared.QuantityRead.{QuantityRead}
 use Rattle.paper.specs.declared.QuantityPrinted.{QuantityPrinted}
@@ -34,6 +35,7 @@ use Rattle.paper.specs.Conversion.{conversionNumber, converted}
 use Rattle.paper.specs.Rights.{enterNumber, entered}
 use Rattle.paper.specs.Readings.{markAnswer, acceptedBlock}
 use Rattle.paper.specs.Finals.{final}
+use Rattle.paper.specs.Settled.{settled}
 use Rattle.paper.specs.PlainRun.{plainRun}
 use Rattle.paper.specs.Listing.{listing}
 use Rattle.reader.specs.Walk.{readable, seriesAt}
@@ -64,6 +66,9 @@ markTold m = m .number ∷ m .differ ∷ m .first .0 ∷ m .partner .0 ∷ []
 
 unfoldable pub finalTold : FinalAnswer → List ℕ
 finalTold f = f .number ∷ f .kilowatts ∷ []
+
+unfoldable pub settledTold : SettledAnswer → List ℕ
+settledTold s = s .number ∷ s .bought ∷ s .sold ∷ []
 
 unfoldable pub plainTold : PlainRunAnswer → List ℕ
 plainTold p = p .number ∷ yesOrNo (p .holds) ∷ []
@@ -111,6 +116,13 @@ finalNumbers book body =
     (finalTold (final book (firstName body) (secondName body) (number 2 (behindTwo body) body)))
     []
 
+-- a party, and two bytes of position
+unfoldable pub settledNumbers : (book body : Bytes) → List ℕ
+settledNumbers book body =
+    cond (is (length (restFrom body (nameEnd body 0))) 2)
+    (settledTold (settled book (firstName body) (number 2 (nameEnd body 0) body)))
+    []
+
 -- how many series a reader hands out up to its first empty part, and the sum over their bytes one after the other; `left` more may be asked for, where
 -- `count` are passed and `sum` is theirs
 unfoldable pub walkOn : (left : ℕ) (message : Bytes) (count sum : ℕ) → List ℕ
@@ -130,7 +142,8 @@ readingNumbers tag book body =
     (cond (is tag 10) (finalNumbers book body)
     (cond (is tag 11) (plainTold (plainRun book))
     (cond (is tag 13) (walkNumbers body)
-    (yesOrNo (sound book) ∷ []))))
+    (cond (is tag 27) (settledNumbers book body)
+    (yesOrNo (sound book) ∷ [])))))
 
 -- ---- calls that may change the book
 
@@ -202,18 +215,22 @@ printLine body =
 unfoldable pub sealLine : (block : Bytes) → Bytes
 sealLine block = answerLine (wordOf 21) [] (sealed block)
 
--- ---- every record whose line is made of a book and a body: tags 3 to 26; tags 1 and 2, `length` and `bytes`, are not asked of it (stream, specs/Buffer)
+-- ---- every record whose line is made of a book and a body: tags 3 to 27; tags 1 and 2, `length` and `bytes`, are not asked of it (stream, specs/Buffer)
 
--- tags 5 to 7 and those above 23: open, clock, submit, open_by, convert and right may change the book
+-- tags 5 to 7 and 24 to 26: open, clock, submit, open_by, convert and right may change the book
 unfoldable pub mayChange : (tag : ℕ) → Bool
-mayChange tag = less tag 8 or less 23 tag
+mayChange tag = less tag 8 or (less 23 tag and less tag 27)
+
+-- of the others those below 16, and 27: they read it
+unfoldable pub reads : (tag : ℕ) → Bool
+reads tag = less tag 16 or less 26 tag
 
 -- tag 23, `judge`, is told what a submission would be
 unfoldable pub numbersTold : (tag : ℕ) (book body : Bytes) → List ℕ
 numbersTold tag book body =
     cond (less tag 5) (bufferNumbers tag book)
     (cond (mayChange tag) (dayNumbers tag book body)
-    (cond (less tag 16) (readingNumbers tag book body)
+    (cond (reads tag) (readingNumbers tag book body)
     (cond (is tag 23) (verdictTold (verdict book body))
     (leafNumbers tag body))))
 

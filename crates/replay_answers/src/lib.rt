@@ -21,10 +21,10 @@ fn numbers(tag: u8, book: &mut [u8], body: &[u8]) -> Told
     if tag < 5 {
         return buffer::numbers(tag, book);
     }
-    if (tag < 8) | (23 < tag) {
+    if (tag < 8) | ((23 < tag) & (tag < 27)) {
         return day_calls::numbers(tag, book, body);
     }
-    if tag < 16 {
+    if (tag < 16) | (26 < tag) {
         return reading_calls::numbers(tag, book, body);
     }
     if tag == 23 {

@@ -2,7 +2,7 @@
 ghost use mathlib.Core.Path.{_≡_};
 ghost use Rattle.paper.specs.PlainRun.{plainRun};
 ghost use Rattle.stream.specs.Told.{numbersOf};
-ghost use Rattle.replay_answers.specs.Answers.{markNumbers, finalNumbers, plainTold, readingNumbers};
+ghost use Rattle.replay_answers.specs.Answers.{markNumbers, finalNumbers, settledNumbers, plainTold, readingNumbers};
 use crate::message_calls::walk_told;
 use block::numbers::number_2;
 use paper::Position;
@@ -14,6 +14,7 @@ use stream::told::flag;
 use stream::told::four;
 use stream::told::nothing;
 use stream::told::one;
+use stream::told::three;
 use stream::told::two;
 
 // The names of the sender and of the series id.
@@ -42,6 +43,19 @@ fn final_value(book: &[u8], body: &[u8]) -> Told
     two(f.number as usize, f.kilowatts as usize)
 }
 
+// The name of the party, then two bytes of position.
+fn settled(book: &[u8], body: &[u8]) -> Told
+    ensures { λ r. ⌜ numbersOf r ≡ settledNumbers (now (book .entry)) (now (body .entry)) ⌝ }
+{
+    let at = name_end(body, 0);
+    if rest_from(body, at).len() != 2 {
+        return nothing();
+    }
+    let position = Position(number_2(body, at) as usize);
+    let s = settling::settled(book, name(body, 0), position);
+    three(s.number as usize, s.bought as usize, s.sold as usize)
+}
+
 fn plain_run(book: &[u8]) -> Told
     ensures { λ r. ⌜ numbersOf r ≡ plainTold (plainRun (now (book .entry))) ⌝ }
 {
@@ -57,6 +71,7 @@ pub fn numbers(tag: u8, book: &[u8], body: &[u8]) -> Told
         10 => final_value(book, body),
         11 => plain_run(book),
         13 => walk_told(body),
+        27 => settled(book, body),
         _ => one(flag(sound::sound(book))),
     }
 }

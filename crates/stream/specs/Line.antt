@@ -76,6 +76,7 @@ words =
     ∷ text "open_by"
     ∷ text "convert"
     ∷ text "right"
+    ∷ text "settled"
     ∷ [])
 
 unfoldable pub wordOf : ℕ → Bytes

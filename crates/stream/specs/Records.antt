@@ -43,6 +43,7 @@ rows =
     ∷ sizes 7 199  -- open_by
     ∷ sizes 0 0  -- convert
     ∷ sizes 0 1024  -- right
+    ∷ sizes 3 67  -- settled
     ∷ []
 
 unfoldable pub sizesOf : (tag : ℕ) → Sizes

@@ -46,6 +46,7 @@ fn sizes_of(tag: u8) -> Sizes
         Sizes(7, 199), // open_by
         Sizes(0, 0), // convert
         Sizes(0, 1024), // right
+        Sizes(3, 67), // settled
     ];
     let k = tag as usize;
     if rows.len() <= k {

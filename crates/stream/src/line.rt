@@ -88,7 +88,7 @@ pub fn answer_with(line: &mut [u8], tag: u8, told: Told, bytes: &[u8]) -> usize
     ensures { λ r. ⌜ Put 0 (answerLine (wordOf tag) (numbersOf told) (now (bytes .entry))) r (now (line .entry)) (now (line .exit)) ⌝ }
 {
     let words =
-        b"\nlength\nbytes\nbook\nsum\nopen\nclock\nsubmit\nmark\nblock\nfinal\nplain\nreader\nwalk\nlisting\nsound\neic\nid\nread\nprint\ncheck\nseal\ncode\njudge\nopen_by\nconvert\nright\n";
+        b"\nlength\nbytes\nbook\nsum\nopen\nclock\nsubmit\nmark\nblock\nfinal\nplain\nreader\nwalk\nlisting\nsound\neic\nid\nread\nprint\ncheck\nseal\ncode\njudge\nopen_by\nconvert\nright\nsettled\n";
     let numbers = told.numbers;
     put_answer(
         line,

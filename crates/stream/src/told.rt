@@ -38,6 +38,15 @@ pub fn two(a: usize, b: usize) -> Told
     }
 }
 
+pub fn three(a: usize, b: usize, c: usize) -> Told
+    ensures { λ r. ⌜ numbersOf r ≡ a ∷ b ∷ c ∷ [] ⌝ }
+{
+    Told {
+        count: 3,
+        numbers: [a, b, c, 0, 0, 0],
+    }
+}
+
 pub fn four(a: usize, b: usize, c: usize, d: usize) -> Told
     ensures { λ r. ⌜ numbersOf r ≡ a ∷ b ∷ c ∷ d ∷ [] ⌝ }
 {

@@ -1,5 +1,5 @@
 -- How many elements pass a test (count), and the sum of what each gives (total).
-use Rattle.laws.specs.Base.{_≡_, refl, sym, ap, _∙_, Bool, true, cond, List, [], _∷_, _++_, map, ℕ, suc, _+_, _*_, _≤_, _<_, mul-suc, zero-add, add-one, arith, length, take, getD, take-suc}
+use Rattle.laws.specs.Base.{_≡_, refl, sym, ap, _∙_, Bool, true, cond, List, [], _∷_, _++_, map, ℕ, suc, _+_, _-_, _*_, _≤_, _<_, mul-suc, zero-add, add-one, arith, length, take, getD, take-suc}
 use Rattle.laws.specs.Tests.{neg}
 use Rattle.laws.specs.Tests.Laws.{split, and-left, and-right, neg-yes, clash}
 use Rattle.laws.specs.Lists.{find, count, keep, total, ofFound, All, apart}
@@ -43,6 +43,17 @@ module _ {A : Type 0} where
   pub total-more : (g : A → ℕ) (l : List A) (i : ℕ) (d : A) → i < length l → total g (take (i + 1) l) ≡ total g (take i l) + g (getD l i d)
   unfolding total
   total-more g l i d h = rw (add-one i, take-suc l i d h) (omega (arith, total-append g (take i l) (getD l i d ∷ [])))
+
+  -- where two sums are equal, what the first terms have above the second is together what the second have above the first
+  pub total-differences : (g h : A → ℕ) (l : List A) → total g l ≡ total h l → total (λ x. g x - h x) l ≡ total (λ x. h x - g x) l
+  unfolding total
+  total-differences g h l e =
+      let p : total (λ x. g x + (h x - g x)) l ≡ total (λ x. h x + (g x - h x)) l = both l in
+      omega (arith, e, p, total-plus g (λ x. h x - g x) l, total-plus h (λ x. g x - h x) l)
+    where
+      both : (l : List A) → total (λ x. g x + (h x - g x)) l ≡ total (λ x. h x + (g x - h x)) l
+      both [] = refl
+      both (x ∷ xs) = omega (arith, both xs)
 
   pub total-agree : (g h : A → ℕ) (l : List A) → All (λ x. g x ≡ h x) l → total g l ≡ total h l
   unfolding total

@@ -1,7 +1,7 @@
 -- The first element that passes a test: whether there is one (has), which it is (find), at what place it stands (place).
 use Rattle.laws.specs.Base.{_≡_, refl, sym, ap, _∙_, Bool, true, false, cond, false≢true, true≢false, none, some, Option·map, List, [], _∷_, _++_, map, ℕ, zero, suc, _+_, _-_, _≤_, _<_, add-one, arith, length, take, getD, length-take-le, take-suc}
-use Rattle.laws.specs.Tests.{_and_, _or_, neg, is, below}
-use Rattle.laws.specs.Tests.Laws.{split, clash, cond-apply, or-left, or-right, or-no, or-false, or-exchange, neg-true, neg-false, neg-and-neg, is-yes, is-no, is-equal, is-other, is-same}
+use Rattle.laws.specs.Tests.{_and_, _or_, neg, is, upto, below}
+use Rattle.laws.specs.Tests.Laws.{split, clash, cond-apply, and-both, and-no-left, and-no-right, or-left, or-right, or-no, or-false, or-exchange, neg-true, neg-false, neg-and-neg, is-yes, is-no, is-equal, is-other, is-same, upto-yes, upto-no, upto-true, upto-false}
 use Rattle.laws.specs.Lists.{further, find, place, nth, has, every, keep, All}
 use Rattle.laws.specs.Lists.Each.{all-imply, all-each, all-find, every-all, nth-getD}
 
@@ -223,6 +223,21 @@ module _ {A : Type 0} where
   has-take-place q (x ∷ xs) (suc i) d h e = split (q x)
       (λ u. rw u (sym (neg-true _ (is-other 1 (suc (suc i)) (λ z. omega arith)))))
       (λ u. rw (u, ← further-suc i, further-is (place q xs) (suc i)) (has-take-place q xs i d (omega arith) e))
+
+  -- among the first i elements one passes exactly where the first that passes is one of them
+  pub has-take-upto : (p : A → Bool) (l : List A) (i : ℕ) → has p (take i l) ≡ (neg (is (place p l) 0) and upto (place p l) i)
+  unfolding has place _or_ further
+  has-take-upto p [] zero = sym (and-no-left _ _ (neg-false _ (is-equal 0 0 refl)))
+  has-take-upto p [] (suc i) = sym (and-no-left _ _ (neg-false _ (is-equal 0 0 refl)))
+  has-take-upto p (x ∷ xs) zero = sym (split (is (place p (x ∷ xs)) 0) (λ t. and-no-left _ _ (neg-false _ t)) (λ t. and-no-right _ _ (upto-false _ 0 (omega (arith, is-no _ _ t)))))
+  has-take-upto p (x ∷ xs) (suc i) = split (p x)
+      (λ t. rw t (sym (and-both _ _ (neg-true _ (is-other 1 0 (λ z. omega arith))) (upto-true 1 (suc i) (omega arith)))))
+      (λ t. rw t (has-take-upto p xs i ∙ one (place p xs)))
+    where
+      one : (m : ℕ) → (neg (is m 0) and upto m i) ≡ (neg (is (further m) 0) and upto (further m) (suc i))
+      one zero = and-no-left _ _ (neg-false _ (is-equal 0 0 refl)) ∙ sym (and-no-left _ _ (neg-false _ (is-equal 0 0 refl)))
+      one (suc m) = ap (λ t. t and upto (suc m) i) (neg-true _ (is-other (suc m) 0 (λ z. omega arith)) ∙ sym (neg-true _ (is-other (suc (suc m)) 0 (λ z. omega arith))))
+          ∙ ap (λ t. neg (is (suc (suc m)) 0) and t) (split (upto (suc m) i) (λ u. u ∙ sym (upto-true (suc (suc m)) (suc i) (omega (arith, upto-yes _ _ u)))) (λ u. u ∙ sym (upto-false (suc (suc m)) (suc i) (omega (arith, upto-no _ _ u)))))
 
   -- what a place t that was found says
   module _ (p : A → Bool) (l : List A) (t : ℕ) (e : t ≡ place p l) where

@@ -1,0 +1,2 @@
+-- The text that tells a book's settled positions.
+pub mod Settlement
