@@ -1,5 +1,7 @@
 // An acceptance ("Accepted (0, A01)"): every byte that it writes into the book. New blocks are added first; then the sender's
 // stored blocks are renewed; then the marks of both sides are put right. What the judgement has found is handed in: nothing is sought twice.
+#![tactic(auto)]
+
 ghost use Rattle.std.specs.Prelude.{◌≡◌, cond, ◌+◌, ◌≤◌, length};
 ghost use Rattle.laws.specs.Tests.{is};
 ghost use Rattle.laws.specs.Lists.{until};
@@ -26,7 +28,7 @@ pub mod remarking;
 pub mod renewal;
 
 // How a book stands to a sender before its message is written: n of its day, how many slots are used, and the sender's slot, 0 where it has none.
-#[derive(Drop)]
+#[derive(Clone, Copy)]
 pub struct Standing {
     pub n: usize,
     pub used: usize,

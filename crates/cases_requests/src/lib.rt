@@ -1,1 +1,2 @@
 // Cases of the requests on books and messages stand in specs/, computed by the definitions; there is no code here.
+#![tactic(auto)]

@@ -1,4 +1,6 @@
 // The clock of a day book, and the day's state that it hands back ("Other calls").
+#![tactic(auto)]
+
 ghost use Rattle.std.specs.Prelude.{◌≡◌};
 ghost use Rattle.paper.specs.Clock.{day_state, advanced, clock_answer, clock_moved};
 

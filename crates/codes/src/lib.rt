@@ -1,4 +1,6 @@
 // The reason code of each number that a call can answer, the reply to a submission, and the state and the code of a mark.
+#![tactic(auto)]
+
 ghost use Rattle.std.specs.Prelude.{◌≡◌};
 ghost use Rattle.laws.specs.Table.{Table};
 ghost use Rattle.paper.specs.Codes.{reason_code, status_code, reply_kind, reply_to};

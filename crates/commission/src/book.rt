@@ -103,12 +103,13 @@ pub fn kept_version(book: &[u8]) -> u32
     layout::version(block) as u32
 }
 
-pub fn listed(book: &[u8]) -> bool
+pub fn listed(rt: &impl Print, book: &[u8]) -> bool
     ensures { result ≡ same page (shown book.now) }
 {
     let mut room = [0u8; 5591];
     let n = listing_text::listing(book, &mut room);
     line::page(
+        rt,
         b"the listing's example, byte for byte",
         b"slot sender series in out differ first partner\n2 14XBILANZGR-1--F TS0001 14XBG-EMPFANG--0 14XBILANZGR-1--F 1 2 4\n4 14XBG-EMPFANG--0 FPL01 14XBG-EMPFANG--0 14XBILANZGR-1--F 1 2 2\n",
         part_of(&room, 0, n),

@@ -1,6 +1,8 @@
 // The check on site: document 01's worked cases ("Both sides of each edge") against the functions of this very program. Each case is a line with what was
 // expected and what came; the last line says whether this desk may be put into service. By the definitions every case gives what is expected, and every
 // function here promises so: a case that comes otherwise tells of the machine, or of what made the program out of its text.
+#![tactic(auto)]
+
 ghost use Rattle.std.specs.Prelude.{◌≡◌, true};
 
 mod book;
@@ -9,10 +11,11 @@ mod table;
 use field::part_of;
 use site_leaves::{leaves, line};
 
-fn leaves_right(book: &mut [u8]) -> bool
+fn leaves_right(rt: &impl Print, book: &mut [u8]) -> bool
     ensures { result ≡ true }
 {
     let a = table::cases(
+        rt,
         book,
         b"eic|10XAT-APG------Z||0|wrong character of EIC 10XAT-APG------Z;\
         eic|10XAT-APG------Y||16|wrong character of EIC 10XAT-APG------Y;\
@@ -27,8 +30,9 @@ fn leaves_right(book: &mut [u8]) -> bool
         eic|10XAT-APG------ZZ||16|wrong character of EIC 10XAT-APG------ZZ;\
         eic|000000000000000A||16|wrong character of EIC 000000000000000A;",
     );
-    let b = leaves::quantities();
+    let b = leaves::quantities(rt);
     let c = table::cases(
+        rt,
         book,
         b"kw|10000||30|number of quantity text \"10000\";\
         kw|.5||30|number of quantity text \".5\";\
@@ -36,13 +40,14 @@ fn leaves_right(book: &mut [u8]) -> bool
         kw|||30|number of quantity text \"\";\
         kw|-0||31|number of quantity text \"-0\";",
     );
-    line::both(line::both(a, b), line::both(c, leaves::printed()))
+    line::both(line::both(a, b), line::both(c, leaves::printed(rt)))
 }
 
-fn checks_right(book: &mut [u8]) -> bool
+fn checks_right(rt: &impl Print, book: &mut [u8]) -> bool
     ensures { result ≡ true }
 {
     table::cases(
+        rt,
         book,
         b"check|505|1|961|check with byte 505 alone 1;\
         check|506|1|31|check with byte 506 alone 1;\
@@ -51,11 +56,12 @@ fn checks_right(book: &mut [u8]) -> bool
     )
 }
 
-fn leads_right() -> bool
+fn leads_right(rt: &impl Print) -> bool
     ensures { result ≡ true }
 {
     let mut book = [0u8; 1024];
     table::cases(
+        rt,
         &mut book,
         b"open|45||0|opening;\
         clock|15||0|clock;\
@@ -71,11 +77,12 @@ fn leads_right() -> bool
 }
 
 // `submit` files the seller's message, by its head and the series behind its first; `message` files a text as it stands.
-fn versions_right() -> bool
+fn versions_right(rt: &impl Print) -> bool
     ensures { result ≡ true }
 {
     let mut book = [0u8; 1536];
     table::cases(
+        rt,
         &mut book,
         b"open|45||0|opening;\
         submit|message BILANZ\nversion 1||0|the seller's first message;\
@@ -88,11 +95,12 @@ fn versions_right() -> bool
 }
 
 // Position 4 is closed at clock 15 and lead 45.
-fn closed_right() -> bool
+fn closed_right(rt: &impl Print) -> bool
     ensures { result ≡ true }
 {
     let mut book = [0u8; 2048];
     table::cases(
+        rt,
         &mut book,
         b"open|45||0|opening;\
         submit|message BILANZ\nversion 1||0|the seller's first message;\
@@ -103,11 +111,12 @@ fn closed_right() -> bool
 }
 
 // A right is entered once; a series on it is judged by its limit (C-14).
-fn rights_right() -> bool
+fn rights_right(rt: &impl Print) -> bool
     ensures { result ≡ true }
 {
     let mut book = [0u8; 2560];
     table::cases(
+        rt,
         &mut book,
         b"open|45||0|opening;\
         right|n 96\ncontract 1\nin-area 10YAT-APG------L\nout-area 10YCZ-CEPS-----N\nholder 14XBILANZGR-1--F\nagreement CEPS-APG-D-14356\n1-96 5\n||0|a right of 5 MW;\
@@ -119,11 +128,12 @@ fn rights_right() -> bool
 }
 
 // The buyer files the same as the seller but for 44,000 kW at position 2. A count of 0 is no state of the old layout; 1 passes as one, and the marks are written anew.
-fn listed_right() -> bool
+fn listed_right(rt: &impl Print) -> bool
     ensures { result ≡ true }
 {
     let mut book = [0u8; 2560];
     let right = table::cases(
+        rt,
         &mut book,
         b"open|45||0|opening;\
         submit|message BILANZ\nversion 1||0|the seller's message;\
@@ -131,35 +141,35 @@ fn listed_right() -> bool
         message|message EMPFANG\nversion 1\nsender 14XBG-EMPFANG--0\nreceiver 14XAT-APCS-----Q\nday 20190131\nn 96\nseries FPL01\narea 10YAT-APG------L\nin 14XBG-EMPFANG--0\nout 14XBILANZGR-1--F\n1-96 45\n2 44\n||0|the buyer's message;\
         convert|||0|conversion, both counts 1;",
     );
-    line::both(right, book::listed(&book))
+    line::both(right, book::listed(rt, &book))
 }
 
-fn days_right() -> bool
+fn days_right(rt: &impl Print) -> bool
     ensures { result ≡ true }
 {
-    let a = leads_right();
-    let b = versions_right();
-    let c = closed_right();
-    let d = rights_right();
+    let a = leads_right(rt);
+    let b = versions_right(rt);
+    let c = closed_right(rt);
+    let d = rights_right(rt);
     line::both(
         line::both(line::both(a, b), line::both(c, d)),
-        listed_right(),
+        listed_right(rt),
     )
 }
 
 // Every case is run, whatever an earlier one gave.
-fn all_right() -> bool
+fn all_right(rt: &impl Print) -> bool
     ensures { result ≡ true }
 {
     let mut no_book = [0u8; 1];
-    let a = leaves_right(&mut no_book);
-    let b = checks_right(&mut no_book);
-    line::both(line::both(a, b), days_right())
+    let a = leaves_right(rt, &mut no_book);
+    let b = checks_right(rt, &mut no_book);
+    line::both(line::both(a, b), days_right(rt))
 }
 
-pub fn run() {
-    let right = all_right();
+pub fn run(rt: &impl Print) {
+    let right = all_right(rt);
     let mut last = [0u8; 80];
     let k = line::put_fitness(&mut last, right);
-    line::say(part_of(&last, 0, k));
+    line::say(rt, part_of(&last, 0, k));
 }

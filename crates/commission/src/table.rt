@@ -35,7 +35,7 @@ fn stated(word: &[u8], command: usize, read: bool) -> bool
     read & ((0 < command) | field::same(word, b"check"))
 }
 
-fn case(book: &mut [u8], row: &[u8]) -> bool
+fn case(rt: &impl Print, book: &mut [u8], row: &[u8]) -> bool
     ensures { (result ≡ row_right book.old row.now) × (book.new ≡ row_book book.old row.now) }
 {
     let word = piece_numbered(row, b'|', 0);
@@ -47,12 +47,12 @@ fn case(book: &mut [u8], row: &[u8]) -> bool
         piece_numbered(row, b'|', 2),
     );
     let expected = number_read(piece_numbered(row, b'|', 3));
-    let right = line::number(piece_numbered(row, b'|', 4), expected.value, came);
+    let right = line::number(rt, piece_numbered(row, b'|', 4), expected.value, came);
     line::both(right, stated(word, command, expected.read))
 }
 
 // Up to the first row that is empty, as every one past the last is.
-pub fn cases(book: &mut [u8], table: &[u8]) -> bool
+pub fn cases(rt: &impl Print, book: &mut [u8], table: &[u8]) -> bool
     ensures { (result ≡ (table_run book.old table.now).0) × (book.new ≡ (table_run book.old table.now).1) }
 {
     let mut right = true;
@@ -62,7 +62,7 @@ pub fn cases(book: &mut [u8], table: &[u8]) -> bool
         if row.len() == 0 {
             return right;
         }
-        right = line::both(case(book, row), right);
+        right = line::both(case(rt, book, row), right);
         k += 1;
     }
     right

@@ -1,4 +1,6 @@
 // C-16: "One call converts old books, writing all marks and nets by the plain rule; 1 if the old layout isn't sound."
+#![tactic(auto)]
+
 ghost use Rattle.std.specs.Prelude.{◌≡◌, [], ◌+◌, ◌*◌, ◌/◌, ◌≤◌, length, get_or, set};
 ghost use Rattle.laws.specs.Cut.{cut};
 ghost use Rattle.paper.specs.Layout.{area};

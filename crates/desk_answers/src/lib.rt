@@ -1,4 +1,6 @@
 // Each command's answer: the call, and the line that tells it. What is left to the program is the moving of bytes.
+#![tactic(auto)]
+
 pub mod changes;
 pub mod questions;
 pub mod words;
@@ -6,14 +8,14 @@ pub mod words;
 use paper::Minute;
 
 // The number of an answer, and how long its line is.
-#[derive(Drop)]
+#[derive(Clone, Copy)]
 pub struct Told {
     pub number: u32,
     pub length: usize,
 }
 
 // The numbers of an opening, as they were given.
-#[derive(Drop)]
+#[derive(Clone, Copy)]
 pub struct Numbers {
     pub blocks: u32,
     pub n: u32,
@@ -21,7 +23,7 @@ pub struct Numbers {
 }
 
 // What changes a book: an opening, whose day, area, receiver and rule are words of the command; a minute; a message; the conversion of a book of the old layout; a right.
-#[derive(Drop)]
+#[derive(Clone, Copy)]
 pub enum Change {
     Open(Numbers),
     Clock(Minute),
@@ -32,7 +34,7 @@ pub enum Change {
 
 // What is asked: of a book, the mark or the block of a series by its sender and id, a final value by seller, buyer and position, the settled
 // positions at a position, or all of it; of no book, a code or a quantity.
-#[derive(Drop)]
+#[derive(Clone, Copy)]
 pub enum Question {
     Mark,
     Block,

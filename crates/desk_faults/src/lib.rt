@@ -1,4 +1,6 @@
 // What the EIC check finds wrong with a code, in words. The answers name the character; whose code it is follows from the order in which codes are judged.
+#![tactic(auto)]
+
 ghost use Rattle.desk_text.specs.Put.{Put};
 ghost use Rattle.desk_faults.specs.Faults.{place, fault, fault_behind, opening_fault, party_fault, verdict_fault};
 

@@ -1,5 +1,7 @@
 // The desk's answers as lines: accepted or refused, document 01's number and reason code, where a rule is broken, what that means, and what was asked for.
 // Each function puts its piece at a place of the line and answers the place behind it.
+#![tactic(auto)]
+
 ghost use Rattle.std.specs.Prelude.{cond, [], ◌++◌, ◌≤◌};
 ghost use Rattle.paper.specs.Listing.{text};
 ghost use Rattle.desk_text.specs.Put.{Put};

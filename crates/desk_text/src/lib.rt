@@ -1,5 +1,7 @@
 // The text of the desk program: what it says in answer to each call, and how it reads its arguments. Whatever of a line would fall
 // past the end of the buffer that it is put into is left out.
+#![tactic(auto)]
+
 pub mod arguments;
 pub mod numbers;
 pub mod pieces;
@@ -9,13 +11,13 @@ pub mod words;
 
 use paper::Minute;
 
-#[derive(Drop)]
+#[derive(Clone, Copy)]
 pub struct NumberRead {
     pub read: bool,
     pub value: u32,
 }
 
-#[derive(Drop)]
+#[derive(Clone, Copy)]
 pub struct MinuteRead {
     pub read: bool,
     pub minute: Minute,

@@ -1,4 +1,6 @@
 // The check of a party or area code.
+#![tactic(auto)]
+
 ghost use Rattle.std.specs.Prelude.{◌≡◌, map, ◌*◌, ◌≤◌, length};
 ghost use Rattle.laws.specs.Lists.{every};
 ghost use Rattle.paper.specs.Eic.{character_value, allowed_in_front, eic_number, eic_number_of_two, eic_valid};

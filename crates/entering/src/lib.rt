@@ -1,4 +1,6 @@
 // C-14, entering a right: it "takes the lowest free slot and is entered once, never altered". A block that is refused leaves the book as it was.
+#![tactic(auto)]
+
 ghost use Rattle.std.specs.Prelude.{◌≡◌, cond, ◌+◌, ◌*◌, ◌≤◌, length};
 ghost use Rattle.laws.specs.Lists.{has};
 ghost use Rattle.laws.specs.Cut.{cut};

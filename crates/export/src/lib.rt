@@ -1,4 +1,6 @@
 // The desk's calls for C. Every one answers for all contents and lengths of what it is lent; include/tetherbay.h declares them.
+#![tactic(auto)]
+
 ghost use Rattle.std.specs.Prelude.{◌≡◌, length};
 ghost use Rattle.laws.specs.Lists.{every};
 ghost use Rattle.laws.specs.Cut.{cut};

@@ -7,7 +7,7 @@ ghost use Rattle.export.specs.Parts.{bytes_of, nothing, part_numbered, accepted_
 
 // Where a part of a lent buffer begins, and how long it is; both are 0 where there is none.
 #[repr(C)]
-#[derive(Drop)]
+#[derive(Clone, Copy)]
 pub struct Part {
     pub offset: usize,
     pub length: usize,

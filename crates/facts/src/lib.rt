@@ -1,1 +1,2 @@
 // Laws of the paper's definitions stand in specs/; there is no code here.
+#![tactic(auto)]

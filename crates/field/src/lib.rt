@@ -1,4 +1,6 @@
 // Parts of blocks, and the fields that stand in them: sixteen bytes of an id or of a code, eight digits of a day.
+#![tactic(auto)]
+
 ghost use Rattle.std.specs.Prelude.{◌≡◌, ◌≤◌, min, length, take};
 ghost use Rattle.laws.specs.Tests.{◌and◌, is};
 ghost use Rattle.laws.specs.Lists.{same, every, until};

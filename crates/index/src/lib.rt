@@ -1,5 +1,7 @@
 // Series found by their id, by their key or by the parties of a trade. Blocks are linked in buckets by a number made of these bytes, so that a search
 // looks at few blocks, however many there are.
+#![tactic(auto)]
+
 ghost use Rattle.std.specs.Prelude.{◌≡◌, true, ◌-◌, ◌/◌, ◌≤◌, ◌<◌, length};
 ghost use Rattle.laws.specs.Lists.{place};
 ghost use Rattle.laws.specs.Cut.{cut};
@@ -38,7 +40,7 @@ pub fn bucket(v: &[u8]) -> usize
 }
 
 // What a series is sought by.
-#[derive(Drop)]
+#[derive(Clone, Copy)]
 pub enum By {
     Id,
     Key,

@@ -1,4 +1,6 @@
 // The order of checks: the first broken rule, with its series and its position.
+#![tactic(auto)]
+
 ghost use Rattle.std.specs.Prelude.{◌≡◌, true, length};
 ghost use Rattle.laws.specs.Cut.{cut};
 ghost use Rattle.paper.specs.Layout.{sender};
@@ -54,7 +56,7 @@ fn head_verdict(d: &[u8], known: &[u8], h: &[u8]) -> Verdict
 }
 
 // How a book stands to a sender: the sender's slot, 0 where it has none, and how many slots are free.
-#[derive(Drop)]
+#[derive(Clone, Copy)]
 pub struct Standing {
     pub slot: usize,
     pub free: usize,
@@ -109,7 +111,7 @@ fn judge_from(
 }
 
 // A verdict, and what the acceptance goes on from: how many slots are used, and the sender's, 0 where it has none.
-#[derive(Drop)]
+#[derive(Clone, Copy)]
 pub struct Judged {
     pub verdict: Verdict,
     pub used: usize,

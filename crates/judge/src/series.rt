@@ -52,7 +52,7 @@ fn late_verdict(d: &[u8], h: &[u8], x: &[u8], s: usize, y: &[u8]) -> Verdict
 
 // What was found of one series of a message: its number there, whether another has its id or its key, the place of the stored one, and that of the right on
 // which it is sent.
-#[derive(Drop)]
+#[derive(Clone, Copy)]
 pub struct Told {
     pub number: usize,
     pub otherwise: bool,
@@ -85,7 +85,7 @@ fn series_verdict(d: &[u8], h: &[u8], us: &[u8], told: Told, sums: &[u64; 100], 
 
 // What was found of each series of a message: the number of its first series with the same id, and with the same key; the place of the stored one, of the
 // sender in a slot, with the same id; and that of the right on which it is sent.
-#[derive(Drop)]
+#[derive(Clone, Copy)]
 pub struct Searched {
     pub slot: usize,
     pub first_ids: [u16; 1000],

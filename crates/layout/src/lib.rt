@@ -1,5 +1,7 @@
 // The fields of a block by name, read here and written in `write`: with `check` of the crate block and the tables of message_text, the only code that names an offset. A field of a block that is too short is
 // shorter too, and a number read of it counts the missing bytes as 0, as the definitions have it.
+#![tactic(auto)]
+
 ghost use Rattle.std.specs.Prelude.{◌≡◌, ◌<◌, ◌≤◌, length};
 ghost use Rattle.laws.specs.Bytes.{part};
 ghost use Rattle.paper.specs.Layout.{kind, n_of, lead, clock_plus_10080, rule_of, day_of_book, area, receiver, version, id_of, series_count, sender, day_of_message, nets, business_type, contract_type, senders_slot, in_area, out_area, in_party, out_party, pair, agreement, mark, differing, first, partner, quantities, quantity, above_n, holder, limit, right_zeros, but_limits, day_zeros, sender_zeros, sender_zeros_in_message, series_zeros_in_message};

@@ -78,7 +78,7 @@ pub fn write_business_type(x: &mut [u8], business: u8)
 }
 
 // Where a field of bytes stands in its block, and how many it has.
-#[derive(Drop)]
+#[derive(Clone, Copy)]
 pub struct Field {
     pub at: usize,
     pub width: usize,

@@ -1,6 +1,8 @@
 // The listing's text, in a buffer that the caller lends: a header, then one line per series by ascending slot, with the kept marks. Every function that
 // puts a text takes the place where it starts and answers the place behind it; what would fall past the buffer's end is left out. The bounds on
 // places are wide: they only keep sums from wrapping.
+#![tactic(auto)]
+
 ghost use Rattle.std.specs.Prelude.{◌≡◌, cond, [], ◌∷◌, ◌++◌, ◌+◌, ◌/◌, ◌<◌, ◌≤◌, length, get_or, set};
 ghost use Rattle.laws.specs.Cut.{cut};
 ghost use Rattle.paper.specs.Layout.{first, partner};

@@ -1,5 +1,7 @@
 // The marks of "Marks and finals", worked out afresh: a series' counterpart among the used slots, at how many positions the two differ
 // and the first of these, and the mark that this gives.
+#![tactic(auto)]
+
 ghost use Rattle.std.specs.Prelude.{◌≡◌, cond, ◌/◌, ◌≤◌, length};
 ghost use Rattle.laws.specs.Tests.{is};
 ghost use Rattle.laws.specs.Cut.{cut};
@@ -56,7 +58,7 @@ pub fn counterpart_slot(us: &[u8], x: &[u8], heads: &[u16; 1024], nexts: &[u16; 
 }
 
 // How two series of one trade differ: at how many positions, and the first of them; 0 and 0 where they agree.
-#[derive(Drop)]
+#[derive(Clone, Copy)]
 struct Difference {
     count: usize,
     first: usize,

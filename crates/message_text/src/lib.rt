@@ -1,4 +1,6 @@
 // A text form of a message and of a right, a line for each field, so that a person can write one.
+#![tactic(auto)]
+
 ghost use Rattle.std.specs.Prelude.{◌≡◌, ◌+◌, ◌*◌, ◌≤◌, true, length, replicate};
 ghost use Rattle.paper.specs.Check.{sealed};
 ghost use Rattle.layout.specs.Written.{with_series_count};
@@ -17,7 +19,7 @@ use message_words::{line_at, next_line, skipped, value, word};
 pub mod fill;
 
 // What became of a line: whether it was fine, and how many series there are now.
-#[derive(Drop)]
+#[derive(Clone, Copy)]
 pub struct Laid {
     pub fine: bool,
     pub series: usize,
@@ -25,7 +27,7 @@ pub struct Laid {
 
 // The first wrong line, counted from 1, and 0; or 0, and how many bytes are laid.
 #[repr(C)]
-#[derive(Drop)]
+#[derive(Clone, Copy)]
 pub struct TextRead {
     pub line: usize,
     pub length: usize,

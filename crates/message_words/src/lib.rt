@@ -1,4 +1,6 @@
 // A text's lines, a line's word and value, and the numbers that they say.
+#![tactic(auto)]
+
 ghost use Rattle.std.specs.Prelude.{◌≡◌, ◌+◌, ◌-◌, ◌<◌, ◌≤◌, length, drop};
 ghost use Rattle.message_words.specs.Words.{before, behind, word, value, skipped, number_of, first_of, last_of};
 

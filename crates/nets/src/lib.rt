@@ -1,5 +1,7 @@
 // "Every sender's net is the sum of its quantities as in party less those as out party", where an external schedule counts by its areas: all hundred at
 // once, so that a series' parties are compared once and not once for each position.
+#![tactic(auto)]
+
 ghost use Rattle.std.specs.Prelude.{◌≡◌, ◌-◌, ◌≤◌, length};
 ghost use Rattle.laws.specs.Cut.{cut};
 ghost use Rattle.paper.specs.Layout.{sender, quantity, with_nets};

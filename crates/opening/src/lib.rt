@@ -1,4 +1,6 @@
 // Opening a day book in a lent buffer ("Other calls").
+#![tactic(auto)]
+
 ghost use Rattle.std.specs.Prelude.{◌≡◌, ◌++◌, ◌-◌, ◌≤◌, length, replicate};
 ghost use Rattle.paper.specs.Opening.{naming_none, day_block_of, opening_allowed, open_answer, opened};
 ghost use Rattle.opening.specs.Sized.{Sized};

@@ -1,6 +1,8 @@
 // "The plain run works marks and nets out afresh for any sound book and says yes exactly when all kept ones are true." Each series' counterpart is
 // sought among the few series of its pair's bucket, each sender's series among all used slots: of these only the kind and the sender's slot are looked
 // at where they are another's.
+#![tactic(auto)]
+
 ghost use Rattle.std.specs.Prelude.{◌≡◌, ◌/◌, ◌≤◌, length};
 ghost use Rattle.laws.specs.Lists.{every};
 ghost use Rattle.laws.specs.Cut.{cut};

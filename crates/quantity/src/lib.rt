@@ -1,4 +1,6 @@
 // Quantity text: 1 to 4 digits of megawatts, then optionally a point and 1 to 3 digits. Inside the desk quantities are kilowatts.
+#![tactic(auto)]
+
 ghost use Rattle.std.specs.Prelude.{◌≡◌, ◌<◌, ◌≤◌, length};
 ghost use Rattle.laws.specs.Bytes.{written};
 ghost use Rattle.paper.specs.QuantityText.{read_refused, read_as, worth, past_point, past_whole, unsigned_read, past_minus, quantity_read};

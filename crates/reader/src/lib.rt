@@ -1,6 +1,8 @@
 // "Series of a message are walked by a reader laid over the message buffer." `new` and `next` are that form. A function that takes, makes or holds a
 // reader is proved by hand, so these are thin; what they do stands in `readable` and `series_at`, on the message and the number, and by these every
 // caller walks: replay, and `series_numbered` for one series alone.
+#![tactic(auto)]
+
 ghost use Rattle.std.specs.Prelude.{◌≡◌};
 ghost use Rattle.paper.specs.Message.{series_numbered};
 ghost use Rattle.reader.specs.Walk.{readable, series_at, following};
@@ -11,7 +13,7 @@ use paper::Slot;
 use slots::numbered;
 
 // The message that is read, and the number of the series that is next.
-#[derive(Drop)]
+#[derive(Clone, Copy)]
 pub struct Reader<'a> {
     pub message: &'a [u8],
     pub next: usize,

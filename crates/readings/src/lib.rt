@@ -1,4 +1,6 @@
 // Readings of a day book ("Other calls"): the mark and the accepted block of (sender, series id), and the final value.
+#![tactic(auto)]
+
 ghost use Rattle.std.specs.Prelude.{◌≡◌};
 ghost use Rattle.laws.specs.Tests.{◌and◌};
 ghost use Rattle.laws.specs.Lists.{place};

@@ -1,5 +1,7 @@
 // The line that answers each record of a stream (docs/REPLAY.md). Where the fields of a record do not fill its body nothing is called and nothing told: the
 // record is malformed.
+#![tactic(auto)]
+
 pub mod day_calls;
 pub mod leaf_calls;
 pub mod message_calls;

@@ -1,4 +1,6 @@
 // Settled positions as text (C-20): a line for each party and one for all of them. The finals of the pairs are worked out once, for all parties.
+#![tactic(auto)]
+
 ghost use Rattle.std.specs.Prelude.{◌≡◌, cond, List, [], ◌∷◌, ◌++◌, ℕ, ◌+◌, ◌/◌, ◌<◌, ◌≤◌, length, take};
 ghost use Rattle.laws.specs.Tests.{◌and◌, ◌or◌};
 ghost use Rattle.laws.specs.Lists.{same, has, once};
@@ -20,7 +22,7 @@ use slots::{block_at, used_part};
 use sound::sound;
 
 // The place behind the lines so far, and the sums over their parties.
-#[derive(Drop)]
+#[derive(Clone, Copy)]
 pub struct Sheet {
     pub at: usize,
     pub bought: u64,

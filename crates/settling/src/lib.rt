@@ -1,5 +1,7 @@
 // C-20: a party's settled position. The finals of all pairs are worked out once, in a row: each stands at the first slot that has its pair, with 0 at every other slot,
 // so that no pair is counted twice. A party's two sums are taken from there.
+#![tactic(auto)]
+
 ghost use Rattle.std.specs.Prelude.{◌≡◌, cond, ◌/◌, ◌<◌, ◌≤◌, length};
 ghost use Rattle.laws.specs.Lists.{same};
 ghost use Rattle.laws.specs.Cut.{cut};

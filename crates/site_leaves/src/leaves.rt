@@ -9,30 +9,30 @@ use desk_text::arguments::byte_value;
 use desk_text::numbers::number_read;
 use field::part_of;
 
-fn read_as(text: &[u8], kilowatts: u32) -> bool
+fn read_as(rt: &impl Print, text: &[u8], kilowatts: u32) -> bool
     ensures { result ≡ reads_as text.now kilowatts }
 {
     let read = quantity::quantity_read(text);
-    line::say(b"number of quantity text ");
-    let a = line::number(text, 0, read.number);
-    line::say(b"kilowatts of quantity text ");
-    line::both(a, line::number(text, kilowatts, read.kilowatts))
+    line::say(rt, b"number of quantity text ");
+    let a = line::number(rt, text, 0, read.number);
+    line::say(rt, b"kilowatts of quantity text ");
+    line::both(a, line::number(rt, text, kilowatts, read.kilowatts))
 }
 
-pub fn quantities() -> bool
+pub fn quantities(rt: &impl Print) -> bool
     ensures { result ≡ true }
 {
-    let a = read_as(b"0.194", 194);
-    let b = read_as(b"9999.999", 9999999);
-    line::both(line::both(a, b), read_as(b"60.0", 60000))
+    let a = read_as(rt, b"0.194", 194);
+    let b = read_as(rt, b"9999.999", 9999999);
+    line::both(line::both(a, b), read_as(rt, b"60.0", 60000))
 }
 
-pub fn printed() -> bool
+pub fn printed(rt: &impl Print) -> bool
     ensures { result ≡ true }
 {
     let mut room = [0u8; 8];
     let k = quantity::quantity_print(60000, &mut room).length;
-    line::text(b"quantity printed", b"60.000", part_of(&room, 0, k))
+    line::text(rt, b"quantity printed", b"60.000", part_of(&room, 0, k))
 }
 
 fn put_byte(block: &mut [u8], at: usize, byte: u8)

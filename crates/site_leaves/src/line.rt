@@ -7,19 +7,24 @@ ghost use Rattle.desk_text.specs.Put.{Put};
 
 use desk_text::put::put;
 use desk_text::words::piece_numbered;
-use libc::STDOUT_FILENO;
 
-pub fn say(text: &[u8]) {
-    io::write_all(STDOUT_FILENO, text);
+// What cannot be written is not said, and the case is judged all the same.
+pub fn say(rt: &impl Print, text: &[u8]) {
+    let _ = rt.write_all(text);
 }
 
-fn verdict(right: bool) -> bool
+// In decimal.
+fn say_number(rt: &impl Print, x: u32) {
+    let _ = rt.print(x);
+}
+
+fn verdict(rt: &impl Print, right: bool) -> bool
     ensures { result ≡ right }
 {
     if right {
-        say(b": right\n");
+        say(rt, b": right\n");
     } else {
-        say(b": WRONG\n");
+        say(rt, b": WRONG\n");
     }
     right
 }
@@ -48,45 +53,45 @@ pub fn put_fitness(line: &mut [u8], right: bool) -> usize
 }
 
 // A case whose answer is a number.
-pub fn number(what: &[u8], expected: u32, came: u32) -> bool
+pub fn number(rt: &impl Print, what: &[u8], expected: u32, came: u32) -> bool
     ensures { result ≡ is expected came }
 {
-    say(what);
-    say(b": expected ");
-    io::print_decimal(STDOUT_FILENO, expected as u64);
-    say(b", came ");
-    io::print_decimal(STDOUT_FILENO, came as u64);
-    verdict(expected == came)
+    say(rt, what);
+    say(rt, b": expected ");
+    say_number(rt, expected);
+    say(rt, b", came ");
+    say_number(rt, came);
+    verdict(rt, expected == came)
 }
 
 // A case whose answer is a text of one line.
-pub fn text(what: &[u8], expected: &[u8], came: &[u8]) -> bool
+pub fn text(rt: &impl Print, what: &[u8], expected: &[u8], came: &[u8]) -> bool
     ensures { result ≡ same expected.now came.now }
 {
-    say(what);
-    say(b": expected ");
-    say(expected);
-    say(b", came ");
-    say(came);
-    verdict(field::same(expected, came))
+    say(rt, what);
+    say(rt, b": expected ");
+    say(rt, expected);
+    say(rt, b", came ");
+    say(rt, came);
+    verdict(rt, field::same(expected, came))
 }
 
 // Two texts of several lines, one under the other.
-fn show(expected: &[u8], came: &[u8]) {
-    say(b": expected\n");
-    say(expected);
-    say(b"came\n");
-    say(came);
+fn show(rt: &impl Print, expected: &[u8], came: &[u8]) {
+    say(rt, b": expected\n");
+    say(rt, expected);
+    say(rt, b"came\n");
+    say(rt, came);
 }
 
 // A case whose answer is a text of several lines, which is shown where it is wrong.
-pub fn page(what: &[u8], expected: &[u8], came: &[u8]) -> bool
+pub fn page(rt: &impl Print, what: &[u8], expected: &[u8], came: &[u8]) -> bool
     ensures { result ≡ same expected.now came.now }
 {
     let right = field::same(expected, came);
-    say(what);
+    say(rt, what);
     if !right {
-        show(expected, came);
+        show(rt, expected, came);
     }
-    verdict(right)
+    verdict(rt, right)
 }

@@ -1,5 +1,7 @@
 // Blocks in a row, as they stand in a book's slots and in a message: one by its number, those of a kind, the used ones, a sender's slot; the kinds of series,
 // and two series compared.
+#![tactic(auto)]
+
 ghost use Rattle.std.specs.Prelude.{◌≡◌, [], ◌*◌, ◌-◌, ◌≤◌, length, get_or};
 ghost use Rattle.laws.specs.Lists.{same, until};
 ghost use Rattle.laws.specs.Cut.{cut};

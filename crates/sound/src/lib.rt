@@ -1,5 +1,7 @@
 // A sound book: document 01's paragraph, clause by clause. The old layout is that of the books before C-16, whose byte 104 holds a state: everything
 // else is asked of both alike, and once.
+#![tactic(auto)]
+
 ghost use Rattle.std.specs.Prelude.{◌≡◌, ◌/◌, ◌≤◌, length};
 ghost use Rattle.laws.specs.Lists.{every};
 ghost use Rattle.laws.specs.Cut.{cut};

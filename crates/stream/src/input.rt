@@ -1,12 +1,12 @@
-// Records from standard input. Nothing is read behind a record, and a body only once its length is known to be lawful.
+// Records from an input. Nothing is read behind a record, and a body only once its length is known to be lawful.
 ghost use Rattle.std.specs.Prelude.{◌≡◌};
 ghost use Rattle.stream.specs.Records.{sizes_of, known, lawful};
 
 use block::numbers::number_4;
 use field::within;
-use libc::STDIN_FILENO;
+use std::io::Read;
 
-#[derive(Drop)]
+#[derive(Clone, Copy)]
 pub enum Head {
     Record(u8, usize),
     End,
@@ -14,7 +14,7 @@ pub enum Head {
 }
 
 // The fewest and the most bytes of a body: the table's columns "shortest" and "longest body".
-#[derive(Drop)]
+#[derive(Clone, Copy)]
 pub struct Sizes(pub usize, pub usize);
 
 // A row for each tag from 0. No body is long enough for a tag that is none.
@@ -73,12 +73,12 @@ fn lawful(tag: u8, n: usize) -> bool
 }
 
 // An unknown tag is found before a length is read.
-fn after_tag(tag: u8) -> Head {
+fn after_tag(input: &mut impl Read, tag: u8) -> Head {
     if !known(tag) {
         return Head::Malformed;
     }
     let mut length = [0u8; 4];
-    if io::read_full(STDIN_FILENO, &mut length) < 4 {
+    if input.read_exact(&mut length).is_err() {
         return Head::Malformed;
     }
     let n = number_4(&length, 0) as usize;
@@ -88,24 +88,21 @@ fn after_tag(tag: u8) -> Head {
     Head::Record(tag, n)
 }
 
-// The tag is read by libc::read, which tells the end of the input from a read that failed.
-pub fn next_head() -> Head {
+// One read of one byte tells the end of the input from a read that failed.
+pub fn next_head(input: &mut impl Read) -> Head {
     let mut tag = [0u8; 1];
-    let got = libc::read(STDIN_FILENO, &mut tag);
-    if got < 0 {
-        return Head::Malformed;
+    match input.read(&mut tag) {
+        Ok(0) => Head::End,
+        Ok(_) => after_tag(input, tag[0]),
+        Err(_) => Head::Malformed,
     }
-    if got == 0 {
-        return Head::End;
-    }
-    after_tag(tag[0])
 }
 
 // Fills the first n bytes; false where the buffer has fewer or the input ends before.
-pub fn fill(buffer: &mut [u8], n: usize) -> bool {
+pub fn fill(input: &mut impl Read, buffer: &mut [u8], n: usize) -> bool {
     let k = within(n, buffer);
     if k < n {
         return false;
     }
-    io::read_full(STDIN_FILENO, &mut buffer[..k]) == n
+    input.read_exact(&mut buffer[..k]).is_ok()
 }

@@ -3,7 +3,7 @@ ghost use Rattle.std.specs.Prelude.{◌≡◌, cond, [], ◌∷◌, take};
 ghost use Rattle.stream.specs.Told.{numbers_of};
 
 // In the order of their line, and how many they are. A malformed record is told nothing.
-#[derive(Drop)]
+#[derive(Clone, Copy)]
 pub struct Told {
     pub count: usize,
     pub numbers: [usize; 6],

@@ -1,4 +1,6 @@
 // A submission: the call the desk exists for.
+#![tactic(auto)]
+
 ghost use Rattle.std.specs.Prelude.{◌≡◌};
 ghost use Rattle.paper.specs.Acceptance.{submitted};
 ghost use Rattle.paper.specs.Looks.{submit_answer};
