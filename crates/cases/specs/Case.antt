@@ -1,6 +1,7 @@
 -- A worked case: what is asked of the definitions, and what document 01 says, both as numbers.
+use Rattle.std.specs.Prelude.{◌∷◌}
 use Prim.Native.String.{String}
-use Rattle.laws.specs.Base.{Bool, cond, List, [], ◌∷◌, ℕ}
+use Rattle.laws.specs.Base.{Bool, cond, List, [], ℕ}
 use Rattle.laws.specs.Lists.{same}
 use Rattle.paper.specs.declared.Verdict.{Verdict}
 use Rattle.paper.specs.declared.MarkAnswer.{MarkAnswer}

@@ -1,5 +1,6 @@
 -- Document 01's table of the characters of an EIC: at each of the 256 byte values what the byte is worth, 255 where it is no character.
-use Rattle.laws.specs.Base.{◌≡◌, true, refl, List, [], ◌∷◌, ◌++◌, ℕ, length, replicate}
+use Rattle.std.specs.Prelude.{◌≡◌, ◌∷◌, ◌++◌}
+use Rattle.laws.specs.Base.{true, refl, List, [], ℕ, length, replicate}
 use Rattle.laws.specs.Table.{tabulates}
 use Rattle.paper.specs.Eic.{character_value}
 use Rattle.cases.specs.Opened.{paper}

@@ -1,6 +1,7 @@
 -- The parties, blocks, messages and books of the cases, built by name. The builders say the layout's table once more, apart from its readers.
+use Rattle.std.specs.Prelude.{◌∷◌, ◌++◌, ◌+◌, ◌-◌, ◌*◌}
 use Prim.Native.String.{String}
-use Rattle.laws.specs.Base.{cond, [], ◌∷◌, ◌++◌, ℕ, zero, suc, ◌+◌, ◌-◌, ◌*◌, length, replicate}
+use Rattle.laws.specs.Base.{cond, [], ℕ, zero, suc, length, replicate}
 use Rattle.laws.specs.Tests.{is, upto}
 use Rattle.laws.specs.Bytes.{written, little}
 use Rattle.paper.specs.Check.{sealed}

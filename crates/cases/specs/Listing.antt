@@ -1,5 +1,6 @@
 -- The listing's example, from the opening to the text.
-use Rattle.laws.specs.Base.{◌≡◌, refl, List, [], ◌∷◌, ◌++◌, ℕ, ◌-◌}
+use Rattle.std.specs.Prelude.{◌≡◌, ◌∷◌, ◌++◌, ◌-◌}
+use Rattle.laws.specs.Base.{refl, List, [], ℕ}
 use Rattle.paper.specs.declared.PlainRunAnswer.{PlainRunAnswer}
 use Rattle.paper.specs.Layout.{Bytes, quantity}
 use Rattle.paper.specs.Book.{used, numbered}

@@ -1,5 +1,6 @@
 -- The cases of document 01 marked P, as one statement over their list.
-use Rattle.laws.specs.Base.{◌≡◌, refl, List, [], ◌∷◌, ℕ, replicate}
+use Rattle.std.specs.Prelude.{◌≡◌, ◌∷◌}
+use Rattle.laws.specs.Base.{refl, List, [], ℕ, replicate}
 use Rattle.paper.specs.Layout.{with_clock}
 use Rattle.paper.specs.Rules.{is_open}
 use Rattle.paper.specs.Opening.{day_block_of}

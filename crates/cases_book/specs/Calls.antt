@@ -1,5 +1,6 @@
 -- Readings, opening, clock and quantity text where document 01 leaves room for doubt.
-use Rattle.laws.specs.Base.{◌≡◌, refl, List, [], ◌∷◌, ◌++◌, map, ℕ, take, drop, replicate}
+use Rattle.std.specs.Prelude.{◌≡◌, ◌∷◌, ◌++◌}
+use Rattle.laws.specs.Base.{refl, List, [], map, ℕ, take, drop, replicate}
 use Rattle.paper.specs.declared.ClockAnswer.{ClockAnswer}
 use Rattle.paper.specs.Layout.{Bytes}
 use Rattle.paper.specs.Message.{series_numbered}

@@ -1,5 +1,6 @@
 -- "Both sides of each edge": the lines that are not marked P, and the edges that stand beside them.
-use Rattle.laws.specs.Base.{◌≡◌, refl, List, [], ◌∷◌, ◌++◌, map, ℕ, take, drop, replicate}
+use Rattle.std.specs.Prelude.{◌≡◌, ◌∷◌, ◌++◌}
+use Rattle.laws.specs.Base.{refl, List, [], map, ℕ, take, drop, replicate}
 use Rattle.laws.specs.Bytes.{written}
 use Rattle.paper.specs.Check.{check_of}
 use Rattle.paper.specs.Layout.{Bytes, version}

@@ -1,5 +1,6 @@
 -- The seller has filed 45,000 throughout, in a book of two slots: all that is asked of that book, which is worked out once.
-use Rattle.laws.specs.Base.{◌≡◌, refl, List, [], ◌++◌}
+use Rattle.std.specs.Prelude.{◌≡◌, ◌++◌}
+use Rattle.laws.specs.Base.{refl, List, []}
 use Rattle.paper.specs.Layout.{Bytes}
 use Rattle.cases.specs.Case.{Case, wrong, once}
 use Rattle.cases.specs.Opened.{paper}

@@ -1,5 +1,6 @@
 -- Each number of the table of rules, with its series number, position, code and character; and the order of the rules. Each message differs from a right one in what its line says.
-use Rattle.laws.specs.Base.{◌≡◌, refl, List, [], ◌∷◌, ◌++◌, take, replicate}
+use Rattle.std.specs.Prelude.{◌≡◌, ◌∷◌, ◌++◌}
+use Rattle.laws.specs.Base.{refl, List, [], take, replicate}
 use Rattle.laws.specs.Bytes.{written}
 use Rattle.paper.specs.Layout.{Bytes, Block}
 use Rattle.paper.specs.Listing.{text}

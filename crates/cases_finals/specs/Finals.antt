@@ -1,6 +1,7 @@
 -- C-17, the lesser value by default: what the two opening calls write, which bytes 6 and 7 a sound book may have, and the final value by both rules: of both sides, of one, of
 -- neither, and with a counterpart that comes late, 0 where positions are closed.
-use Rattle.laws.specs.Base.{◌≡◌, refl, cond, List, [], ◌∷◌, ◌++◌, ℕ, length, take, drop, replicate}
+use Rattle.std.specs.Prelude.{◌≡◌, ◌∷◌, ◌++◌}
+use Rattle.laws.specs.Base.{refl, cond, List, [], ℕ, length, take, drop, replicate}
 use Rattle.laws.specs.Tests.{upto}
 use Rattle.laws.specs.Bytes.{part}
 use Rattle.paper.specs.declared.Rule.{Rule}

@@ -1,6 +1,7 @@
 -- C-20, settled quantities cancel: a trade that both sides file counts once, one the other way round is another pair, a side alone counts as its final does; by both rules, with the sums
 -- over the parties and the refusals. Positions 1 to 4 are closed.
-use Rattle.laws.specs.Base.{◌≡◌, refl, List, [], ◌∷◌, ◌++◌, ℕ, take}
+use Rattle.std.specs.Prelude.{◌≡◌, ◌∷◌, ◌++◌}
+use Rattle.laws.specs.Base.{refl, List, [], ℕ, take}
 use Rattle.laws.specs.Lists.{total}
 use Rattle.laws.specs.Cut.{join}
 use Rattle.paper.specs.declared.SettledAnswer.{SettledAnswer}

@@ -1,5 +1,6 @@
 -- C-11, which character is wrong: the EIC check's number at both sides of each edge, and as opening and submission pass it on.
-use Rattle.laws.specs.Base.{◌≡◌, refl, List, [], ◌∷◌, ◌++◌, ℕ, take, replicate}
+use Rattle.std.specs.Prelude.{◌≡◌, ◌∷◌, ◌++◌}
+use Rattle.laws.specs.Base.{refl, List, [], ℕ, take, replicate}
 use Rattle.paper.specs.declared.OpenAnswer.{OpenAnswer}
 use Rattle.paper.specs.Layout.{Bytes}
 use Rattle.paper.specs.Opening.{naming_none, open_answer}

@@ -1,5 +1,6 @@
 -- C-16, the conversion of an old book: of a true one, of a false one, and of what is no old book.
-use Rattle.laws.specs.Base.{◌≡◌, refl, some, List, [], ◌∷◌, ◌++◌, map, ℕ, ◌+◌, ◌*◌, length, take, drop, replicate}
+use Rattle.std.specs.Prelude.{◌≡◌, ◌∷◌, ◌++◌, ◌+◌, ◌*◌}
+use Rattle.laws.specs.Base.{refl, some, List, [], map, ℕ, length, take, drop, replicate}
 use Rattle.laws.specs.Cut.{join}
 use Rattle.paper.specs.Layout.{Bytes}
 use Rattle.paper.specs.Book.{used, numbered}

@@ -1,5 +1,6 @@
 -- C-16, how many quarter-hours differ: the count in a mark, and both sides of what soundness asks of it.
-use Rattle.laws.specs.Base.{◌≡◌, refl, none, some, List, [], ◌∷◌, ◌++◌, ℕ, take, drop}
+use Rattle.std.specs.Prelude.{◌≡◌, ◌∷◌, ◌++◌}
+use Rattle.laws.specs.Base.{refl, none, some, List, [], ℕ, take, drop}
 use Rattle.paper.specs.Layout.{Bytes}
 use Rattle.paper.specs.Book.{used, numbered}
 use Rattle.paper.specs.Sound.{sound}

@@ -1,5 +1,6 @@
 -- C-23, a ceiling on the search: what one look finds, what the looks of a submission have found, and the number that it reports.
-use Rattle.laws.specs.Base.{◌≡◌, refl, List, [], ◌∷◌, ◌++◌, ℕ}
+use Rattle.std.specs.Prelude.{◌≡◌, ◌∷◌, ◌++◌}
+use Rattle.laws.specs.Base.{refl, List, [], ℕ}
 use Rattle.paper.specs.Layout.{Bytes, with_senders_slot}
 use Rattle.paper.specs.Looks.{look, partners_found, submit_answer}
 use Rattle.cases.specs.Case.{Case, ◌gives◌, wrong, once}

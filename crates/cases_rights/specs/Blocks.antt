@@ -1,7 +1,8 @@
 -- Rights and external schedules, built by name after source 000's examples: an import of 19 MW without congestion, and one of 20 MW on a yearly and a daily right. Its trading partner has no EIC
 -- there; here it has.
+use Rattle.std.specs.Prelude.{◌∷◌, ◌++◌}
 use Prim.Native.String.{String}
-use Rattle.laws.specs.Base.{[], ◌∷◌, ◌++◌, ℕ, replicate}
+use Rattle.laws.specs.Base.{[], ℕ, replicate}
 use Rattle.laws.specs.Bytes.{little}
 use Rattle.paper.specs.Check.{sealed}
 use Rattle.paper.specs.Layout.{Bytes, Block}

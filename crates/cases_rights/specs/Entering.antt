@@ -1,5 +1,6 @@
 -- C-14, "entering: 1, 40 malformed or equal to a stored right in all but limits, 17".
-use Rattle.laws.specs.Base.{◌≡◌, refl, List, [], ◌∷◌, ◌++◌, ℕ, take, drop, replicate}
+use Rattle.std.specs.Prelude.{◌≡◌, ◌∷◌, ◌++◌}
+use Rattle.laws.specs.Base.{refl, List, [], ℕ, take, drop, replicate}
 use Rattle.laws.specs.Bytes.{written}
 use Rattle.paper.specs.Layout.{Bytes, Block}
 use Rattle.paper.specs.Rights.{right_allowed, enter_number, entered}

@@ -1,5 +1,6 @@
 -- C-14, external schedules: rules 7 to 10 by type, 18 and 19, nets by area, marks and finals without them.
-use Rattle.laws.specs.Base.{◌≡◌, refl, some, option_map, option_get_or, List, [], ◌∷◌, ◌++◌, ℕ}
+use Rattle.std.specs.Prelude.{◌≡◌, ◌∷◌, ◌++◌}
+use Rattle.laws.specs.Base.{refl, some, option_map, option_get_or, List, [], ℕ}
 use Rattle.laws.specs.Lists.{find}
 use Rattle.paper.specs.Layout.{Bytes, Block, nets, entry}
 use Rattle.paper.specs.Book.{used, is_sender_block_of}

@@ -1,5 +1,6 @@
 -- Each row of the check on site gives what its table expects: the table's answer is yes.
-use Rattle.laws.specs.Base.{◌≡◌, refl, true, ℕ, replicate}
+use Rattle.std.specs.Prelude.{◌≡◌}
+use Rattle.laws.specs.Base.{refl, true, ℕ, replicate}
 use Rattle.desk_text.specs.Put.{within}
 use Rattle.desk_text.specs.Numbers.{number_read, minute_after, minute_before, minute_read}
 use Rattle.desk_text.specs.Words.{lines, first_piece, past_piece, past_pieces, piece_numbered, line_numbered, commands}

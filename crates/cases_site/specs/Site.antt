@@ -1,5 +1,6 @@
 -- What a row of the check on site asks of the definitions, and whether the answer is the one that the row expects.
-use Rattle.laws.specs.Base.{Bool, true, cond, ◌++◌, ℕ, zero, suc, ◌+◌, length, replicate}
+use Rattle.std.specs.Prelude.{◌++◌, ◌+◌}
+use Rattle.laws.specs.Base.{Bool, true, cond, ℕ, zero, suc, length, replicate}
 use Rattle.laws.specs.Tests.{◌and◌, ◌or◌, is, less}
 use Rattle.laws.specs.Lists.{same}
 use Rattle.laws.specs.Bytes.{part, written}

@@ -1,5 +1,6 @@
 -- The tables of the check on site, row by row: a word of the desk or `check`, two arguments, the number expected and what is told, with bars between them.
-use Rattle.laws.specs.Base.{List, [], ◌∷◌, ◌++◌}
+use Rattle.std.specs.Prelude.{◌∷◌, ◌++◌}
+use Rattle.laws.specs.Base.{List, []}
 use Rattle.paper.specs.Layout.{Bytes}
 use Rattle.paper.specs.Listing.{text}
 

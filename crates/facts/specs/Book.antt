@@ -1,5 +1,6 @@
 -- A book is its day block and its slots, and bytes joined from blocks of 512 are read as those blocks; what a test says of a block follows from its kind.
-use Rattle.laws.specs.Base.{◌≡◌, refl, sym, ap, ap₂, ◌∙◌, Bool, true, false, option_get_or, List, [], ◌∷◌, ◌++◌, map, append_assoc, ℕ, zero, suc, ◌+◌, ◌-◌, ◌*◌, ◌/◌, ◌%◌, ◌≤◌, ◌<◌, arith, length, take, drop, get_or-append, length-drop, drop_at, drop-drop, take_at}
+use Rattle.std.specs.Prelude.{◌≡◌, ◌∷◌, ◌++◌, ◌+◌, ◌-◌, ◌*◌, ◌/◌, ◌%◌, ◌≤◌, ◌<◌}
+use Rattle.laws.specs.Base.{refl, sym, ap, ap₂, ◌∙◌, Bool, true, false, option_get_or, List, [], map, append_assoc, ℕ, zero, suc, arith, length, take, drop, get_or-append, length-drop, drop_at, drop-drop, take_at}
 use Rattle.laws.specs.Tests.{◌or◌, is}
 use Rattle.laws.specs.Tests.Laws.{split, clash, and_left, and_right, and_both, and_no_left, and_no_right, or_no, or_else, is_yes, is_equal, is_other}
 use Rattle.laws.specs.Lists.{same, place, has, until, All, find, further}

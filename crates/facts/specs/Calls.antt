@@ -1,5 +1,6 @@
 -- What an accepted clock move and an accepted opening say, as records.
-use Rattle.laws.specs.Base.{◌≡◌, sym, ap, ◌∙◌, true, false, ◌++◌, ℕ, ◌-◌, ◌/◌, ◌%◌, ◌≤◌, arith, length, drop, replicate, length-append, length-replicate}
+use Rattle.std.specs.Prelude.{◌≡◌, ◌++◌, ◌-◌, ◌/◌, ◌%◌, ◌≤◌}
+use Rattle.laws.specs.Base.{sym, ap, ◌∙◌, true, false, ℕ, arith, length, drop, replicate, length-append, length-replicate}
 use Rattle.laws.specs.Tests.{◌or◌, neg, less}
 use Rattle.laws.specs.Tests.Laws.{split, and_left, and_right, and_no_left, and_no_right, or_left, or_right, neg_no, is_yes, is_equal, less_no, upto_yes}
 use Rattle.laws.specs.Bytes.{part, value, little, number}

@@ -1,6 +1,7 @@
 -- The character that an opening or a verdict names is the EIC check's number of the code at fault, 0 elsewhere. Of a verdict: it is so of every rule's own, and the
 -- first refusal is one of these.
-use Rattle.laws.specs.Base.{◌≡◌, refl, sym, ap, ◌∙◌, Bool, true, false, cond, List, [], ◌∷◌, ◌++◌, ℕ, zero, suc, ◌+◌, add-one, arith, drop, get_or, drop-drop}
+use Rattle.std.specs.Prelude.{◌≡◌, ◌∷◌, ◌++◌, ◌+◌}
+use Rattle.laws.specs.Base.{refl, sym, ap, ◌∙◌, Bool, true, false, cond, List, [], ℕ, zero, suc, add-one, arith, drop, get_or, drop-drop}
 use Rattle.laws.specs.Tests.{is}
 use Rattle.laws.specs.Tests.Laws.{is_no, is_equal, is_other}
 use Rattle.laws.specs.Order.{first, along}

@@ -1,6 +1,7 @@
 -- The check of a block: it goes byte by byte and stays below 4,294,967,296; 31 has an inverse by that number, so that no two checks meet in a step
 -- and one changed byte is always noticed; and a sealed block's check is right.
-use Rattle.laws.specs.Base.{◌≡◌, refl, sym, ap, ◌∙◌, true, false, List, [], ◌∷◌, ◌++◌, ℕ, suc, ◌+◌, ◌-◌, ◌*◌, ◌/◌, ◌≤◌, ◌<◌, add-one, arith, length, take, drop, get_or, set, drop_of_length-le, length-take, take-append-drop, drop-cons, drop-drop, get_or-take, set_split, split_at, take-set-lt}
+use Rattle.std.specs.Prelude.{◌≡◌, ◌∷◌, ◌++◌, ◌+◌, ◌-◌, ◌*◌, ◌/◌, ◌≤◌, ◌<◌}
+use Rattle.laws.specs.Base.{refl, sym, ap, ◌∙◌, true, false, List, [], ℕ, suc, add-one, arith, length, take, drop, get_or, set, drop_of_length-le, length-take, take-append-drop, drop-cons, drop-drop, get_or-take, set_split, split_at, take-set-lt}
 use Rattle.std.proofs.Common.{⊎_elim}
 use Rattle.laws.specs.Tests.Laws.{lt_or, is_yes, is_equal, is_other}
 use Rattle.laws.specs.Bytes.{part, written, little, number}

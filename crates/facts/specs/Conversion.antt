@@ -1,6 +1,7 @@
 -- What an accepted conversion says, as a record. A book that is sound in the old layout is sound: its byte 104 is at most 3, and every n is above that. And what a
 -- conversion does to each block: it writes nets and check of a sender, mark and check of a series, and so leaves what marks are worked out from.
-use Rattle.laws.specs.Base.{◌≡◌, refl, ap, ap₂, ◌∙◌, Bool, true, false, cond, Option, none, some, option_map, List, ◌++◌, map, ℕ, ◌+◌, ◌*◌, ◌≤◌, ◌<◌, arith, length, drop}
+use Rattle.std.specs.Prelude.{◌≡◌, ◌++◌, ◌+◌, ◌*◌, ◌≤◌, ◌<◌}
+use Rattle.laws.specs.Base.{refl, ap, ap₂, ◌∙◌, Bool, true, false, cond, Option, none, some, option_map, List, map, ℕ, arith, length, drop}
 use Rattle.laws.specs.Tests.{◌and◌, is}
 use Rattle.laws.specs.Tests.Laws.{split, and_left, and_right, and_both, or_else, neg_false, is_equal, is_other, upto_yes}
 use Rattle.laws.specs.Lists.{same, find, place, keep, total, All}

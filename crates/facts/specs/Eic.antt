@@ -1,6 +1,7 @@
 -- Facts of the EIC check: the sum is 0 of fifteen zeros alone; the number names the first character that is not allowed or is missing; 0 says what document 01
 -- asks of a valid code.
-use Rattle.laws.specs.Base.{◌≡◌, refl, sym, ap, ◌∙◌, Bool, true, false, cond, [], ◌∷◌, ℕ, zero, suc, ◌+◌, ◌-◌, ◌*◌, ◌%◌, ◌≤◌, ◌<◌, mul-zero, suc-mul, arith, length, take, get_or, length-take, take_all}
+use Rattle.std.specs.Prelude.{◌≡◌, ◌∷◌, ◌+◌, ◌-◌, ◌*◌, ◌%◌, ◌≤◌, ◌<◌}
+use Rattle.laws.specs.Base.{refl, sym, ap, ◌∙◌, Bool, true, false, cond, [], ℕ, zero, suc, mul-zero, suc-mul, arith, length, take, get_or, length-take, take_all}
 use Rattle.laws.specs.Tests.{◌and◌, ◌or◌, neg, is, less, upto}
 use Rattle.laws.specs.Tests.Laws.{split, clash, and_left, and_right, and_both, or_left, or_right, or_no, neg_yes, neg_no, neg_true, neg_false, is_yes, is_no, is_equal, is_other, less_yes, less_no, less_true, less_false, upto_yes}
 use Rattle.laws.specs.Lists.{every, until}

@@ -1,6 +1,7 @@
 -- What the two rules choose: the lesser is the greatest number that is above neither side, so that a lone side settles at 0; by the seller's rule a book has the finals that it
 -- had before a rule was named, and a day block of that time names it.
-use Rattle.laws.specs.Base.{◌≡◌, refl, ap, ◌∙◌, Bool, true, false, true≢false, cond, Option, none, some, List, ◌++◌, ℕ, ◌-◌, ◌≤◌, arith, le_refl}
+use Rattle.std.specs.Prelude.{◌≡◌, ◌++◌, ◌-◌, ◌≤◌}
+use Rattle.laws.specs.Base.{refl, ap, ◌∙◌, Bool, true, false, true≢false, cond, Option, none, some, List, ℕ, arith, le_refl}
 use Rattle.laws.specs.Tests.{◌and◌, ◌or◌, neg, is, less}
 use Rattle.laws.specs.Tests.Laws.{split, and_left, and_right, and_both, or_else, is_yes, less_yes, less_no}
 use Rattle.laws.specs.Bytes.{part, number}

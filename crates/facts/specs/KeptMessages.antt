@@ -1,6 +1,7 @@
 -- The messages that a conversion finds kept: each is its sender's block and series, whole blocks joined, and so is read back as these; as no two senders share an
 -- EIC, the latest message of a sender is the one made of its block.
-use Rattle.laws.specs.Base.{◌≡◌, refl, sym, ap, ◌∙◌, true, false, Option, none, some, option_map, List, [], ◌∷◌, map, arith, length, drop_at, take_at}
+use Rattle.std.specs.Prelude.{◌≡◌, ◌∷◌}
+use Rattle.laws.specs.Base.{refl, sym, ap, ◌∙◌, true, false, Option, none, some, option_map, List, [], map, arith, length, drop_at, take_at}
 use Rattle.laws.specs.Tests.{neg}
 use Rattle.laws.specs.Tests.Laws.{split, clash, and_left, and_right, and_both, and_no_left, neg_yes}
 use Rattle.laws.specs.Lists.{same, find, every, keep, apart, All}

@@ -1,6 +1,7 @@
 -- What a key tells of a series: its bytes hold business type, contract type, areas, parties and agreement, so that two series with one key agree in each of these.
 -- Between two trades of one area the key says no more than the parties.
-use Rattle.laws.specs.Base.{◌≡◌, refl, sym, ap, ap₂, ◌∙◌, true, false, cond, some, none, [], ◌∷◌, ◌++◌, append-nil, ℕ, zero, suc, ◌+◌, ◌≤◌, ◌<◌, arith, length, take, drop, drop_at, take_at, take_all, take-nil, drop_of_length-le}
+use Rattle.std.specs.Prelude.{◌≡◌, ◌∷◌, ◌++◌, ◌+◌, ◌≤◌, ◌<◌}
+use Rattle.laws.specs.Base.{refl, sym, ap, ap₂, ◌∙◌, true, false, cond, some, none, [], append-nil, ℕ, zero, suc, arith, length, take, drop, drop_at, take_at, take_all, take-nil, drop_of_length-le}
 use Rattle.laws.specs.Tests.{◌and◌, ◌or◌, is, less}
 use Rattle.laws.specs.Tests.Laws.{split, clash, or_no, is_yes, is_other, less_yes, less_no}
 use Rattle.laws.specs.Lists.{same, All}

@@ -1,5 +1,6 @@
 -- A field that is written is read as it was written, and no other field changes with it: each field is a part of the block, and no two parts meet.
-use Rattle.laws.specs.Base.{◌≡◌, refl, sym, ap, ap₂, ◌∙◌, true, [], ◌∷◌, ◌++◌, ℕ, zero, suc, ◌+◌, ◌-◌, ◌*◌, ◌≤◌, ◌<◌, add-zero, arith, length, drop-nil, take-nil}
+use Rattle.std.specs.Prelude.{◌≡◌, ◌∷◌, ◌++◌, ◌+◌, ◌-◌, ◌*◌, ◌≤◌, ◌<◌}
+use Rattle.laws.specs.Base.{refl, sym, ap, ap₂, ◌∙◌, true, [], ℕ, zero, suc, add-zero, arith, length, drop-nil, take-nil}
 use Rattle.laws.specs.Tests.{is}
 use Rattle.laws.specs.Tests.Laws.{and_left, and_right, and_both, is_yes, is_equal}
 use Rattle.laws.specs.Lists.{every, All}

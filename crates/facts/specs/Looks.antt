@@ -1,6 +1,7 @@
 -- The looks find the partners that the marks name: a slot once found for a series stays, and the first to be found is the lowest, for the slots are looked at in
 -- ascending order.
-use Rattle.laws.specs.Base.{◌≡◌, refl, sym, ap, ◌∙◌, true, false, cond, Option, List, [], ◌∷◌, ◌++◌, map, ℕ, zero, suc, ◌+◌, ◌-◌, ◌≤◌, ◌<◌, add-one, arith, length, take, get_or, set, length-append, length-map, length-set, length-replicate, length-take-le, take_all, take-set-lt, get_or-take}
+use Rattle.std.specs.Prelude.{◌≡◌, ◌∷◌, ◌++◌, ◌+◌, ◌-◌, ◌≤◌, ◌<◌}
+use Rattle.laws.specs.Base.{refl, sym, ap, ◌∙◌, true, false, cond, Option, List, [], map, ℕ, zero, suc, add-one, arith, length, take, get_or, set, length-append, length-map, length-set, length-replicate, length-take-le, take_all, take-set-lt, get_or-take}
 use Rattle.std.proofs.Math.Decide.{ℕ_discrete}
 use Rattle.std.proofs.lemmas.List.{get_or-replicate}
 use Rattle.std.proofs.Math.Seq.{ext_get_or}

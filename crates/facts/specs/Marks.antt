@@ -1,6 +1,7 @@
 -- What a mark says: count and first are 0 exactly where all n quantities agree; else the count is from 1 to n, and first is the lowest position at which they
 -- differ. Alone, agree and differ are told apart by count and partner.
-use Rattle.laws.specs.Base.{◌≡◌, refl, sym, ◌∙◌, Bool, cond, none, some, [], ◌∷◌, ℕ, zero, suc, ◌+◌, ◌-◌, ◌≤◌, ◌<◌, add-one, arith}
+use Rattle.std.specs.Prelude.{◌≡◌, ◌∷◌, ◌+◌, ◌-◌, ◌≤◌, ◌<◌}
+use Rattle.laws.specs.Base.{refl, sym, ◌∙◌, Bool, cond, none, some, [], ℕ, zero, suc, add-one, arith}
 use Rattle.std.proofs.Math.Decide.{ℕ_discrete}
 use Rattle.laws.specs.Tests.{is}
 use Rattle.laws.specs.Tests.Laws.{split, is_yes, is_no, is_equal, is_same, is_other}

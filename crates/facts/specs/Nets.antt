@@ -1,6 +1,7 @@
 -- What a net says: the four bytes hold the sum bought less the sum sold, by its remainder by 2 to the 32. A sum of at most 200 quantities of at most 9,999,999
 -- is at most 1,999,999,800, less than half of that, so the word tells the signed number.
-use Rattle.laws.specs.Base.{◌≡◌, refl, Bool, true, false, cond, List, ℕ, zero, suc, ◌+◌, ◌-◌, ◌*◌, ◌%◌, ◌≤◌, ◌<◌, arith, length, length-append}
+use Rattle.std.specs.Prelude.{◌≡◌, ◌+◌, ◌-◌, ◌*◌, ◌%◌, ◌≤◌, ◌<◌}
+use Rattle.laws.specs.Base.{refl, Bool, true, false, cond, List, ℕ, zero, suc, arith, length, length-append}
 use Rattle.laws.specs.Lists.{total, All}
 use Rattle.laws.specs.Lists.Each.{all_imply}
 use Rattle.laws.specs.Lists.Count.{total_bound}

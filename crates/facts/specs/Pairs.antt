@@ -1,6 +1,7 @@
 -- What a series is paired by: a trade by its two parties, an external schedule by nothing. A search among the series of one slot by a test that the key decides, and a search for counterparts,
 -- see kind, sender's slot and key alone; so a change of a block that leaves these three leaves what is found.
-use Rattle.laws.specs.Base.{◌≡◌, refl, sym, ap, ap₂, ◌∙◌, Bool, true, false, false≢true, Option, none, some, option_map, List, ℕ}
+use Rattle.std.specs.Prelude.{◌≡◌}
+use Rattle.laws.specs.Base.{refl, sym, ap, ap₂, ◌∙◌, Bool, true, false, false≢true, Option, none, some, option_map, List, ℕ}
 use Rattle.laws.specs.Tests.{◌and◌, is}
 use Rattle.laws.specs.Tests.Laws.{split, clash, and_left, and_right, and_both, and_no_left, and_no_right, or_right, neg_yes, neg_true, is_no, is_other}
 use Rattle.laws.specs.Lists.{same, find, has, apart, All}

@@ -1,6 +1,7 @@
 -- The counterpart's own partner is the placed series: its pair has two parties, it stands for one of them, and a series of the message's sender with the pair makes
 -- that sender the other; so no third sender has the pair, and nothing is sought.
-use Rattle.laws.specs.Base.{◌≡◌, sym, ap, ◌∙◌, Bool, true, false, cond, some, List, [], ℕ, ◌+◌, ◌≤◌, ◌<◌, arith, length, take, get_or, set, take_all}
+use Rattle.std.specs.Prelude.{◌≡◌, ◌+◌, ◌≤◌, ◌<◌}
+use Rattle.laws.specs.Base.{sym, ap, ◌∙◌, Bool, true, false, cond, some, List, [], ℕ, arith, length, take, get_or, set, take_all}
 use Rattle.std.proofs.Math.Decide.{ℕ_discrete}
 use Rattle.std.proofs.Common.{get_or-set_same}
 use Rattle.std.proofs.Math.Seq.{get_or-set_other}

@@ -1,5 +1,6 @@
 -- Quantities within their ranges, position by position: k is position k + 1.
-use Rattle.laws.specs.Base.{◌≡◌, sym, ◌∙◌, true, ℕ, ◌+◌, ◌-◌, ◌*◌, ◌≤◌, ◌<◌, arith}
+use Rattle.std.specs.Prelude.{◌≡◌, ◌+◌, ◌-◌, ◌*◌, ◌≤◌, ◌<◌}
+use Rattle.laws.specs.Base.{sym, ◌∙◌, true, ℕ, arith}
 use Rattle.laws.specs.Tests.Laws.{and_left, and_right, upto_yes, below_at}
 use Rattle.laws.specs.Bytes.{number}
 use Rattle.laws.specs.Bytes.Laws.{number_part}

@@ -1,5 +1,6 @@
 -- Quantity text: what is printed is read back and is at most 8 bytes long, and what is read is below ten million.
-use Rattle.laws.specs.Base.{◌≡◌, refl, ap, ◌∙◌, Bool, true, false, cond, List, [], ◌∷◌, ◌++◌, append-nil, ℕ, zero, suc, ◌+◌, ◌-◌, ◌*◌, ◌/◌, ◌%◌, ◌^◌, ◌≤◌, ◌<◌, add-zero, mul-one, pow-le-pow_right, pow-suc, zero-add, arith, length, take, drop, get_or, get_or-append, length-append, drop_at, length-take-le, take_all, take_at}
+use Rattle.std.specs.Prelude.{◌≡◌, ◌∷◌, ◌++◌, ◌+◌, ◌-◌, ◌*◌, ◌/◌, ◌%◌, ◌^◌, ◌≤◌, ◌<◌}
+use Rattle.laws.specs.Base.{refl, ap, ◌∙◌, Bool, true, false, cond, List, [], append-nil, ℕ, zero, suc, add-zero, mul-one, pow-le-pow_right, pow-suc, zero-add, arith, length, take, drop, get_or, get_or-append, length-append, drop_at, length-take-le, take_all, take_at}
 use Rattle.laws.specs.Tests.{◌and◌, neg, is, less, upto}
 use Rattle.laws.specs.Tests.Laws.{neg_no, neg_false, and_left, and_right, and_both, is_yes, is_no, is_same, is_other, upto_yes, upto_true, less_yes}
 use Rattle.laws.specs.Lists.{All, every, until}

@@ -1,5 +1,6 @@
 -- A mark that is put right changes the mark and the check of a block and nothing else of it, for it is written over these bytes alone.
-use Rattle.laws.specs.Base.{◌≡◌, refl, ap, ap₂, ◌∙◌, Bool, true, false, Option, none, some, option_map, List, map, ℕ, arith, length}
+use Rattle.std.specs.Prelude.{◌≡◌}
+use Rattle.laws.specs.Base.{refl, ap, ap₂, ◌∙◌, Bool, true, false, Option, none, some, option_map, List, map, ℕ, arith, length}
 use Rattle.laws.specs.Tests.{◌and◌, is}
 use Rattle.laws.specs.Tests.Laws.{split, and_no_left}
 use Rattle.laws.specs.Lists.{same, find}

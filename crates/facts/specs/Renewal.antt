@@ -1,6 +1,7 @@
 -- An acceptance renews the sender's own blocks and leaves every other: a stored series keeps its slot, its sender's slot and its key, for it is replaced by
 -- the message's series of its key; and every new block is a stored one renewed, the sender's block, or a new series.
-use Rattle.laws.specs.Base.{◌≡◌, refl, sym, ap, ap₂, ◌∙◌, true, false, cond, Option, none, some, List, [], ◌∷◌, map, ℕ, suc, ◌+◌, ◌≤◌, ◌<◌, arith, length, length-append, length-map}
+use Rattle.std.specs.Prelude.{◌≡◌, ◌∷◌, ◌+◌, ◌≤◌, ◌<◌}
+use Rattle.laws.specs.Base.{refl, sym, ap, ap₂, ◌∙◌, true, false, cond, Option, none, some, List, [], map, ℕ, suc, arith, length, length-append, length-map}
 use Rattle.laws.specs.Tests.{◌and◌, is}
 use Rattle.laws.specs.Tests.Laws.{split, clash}
 use Rattle.laws.specs.Lists.{same, find, has, keep, All}

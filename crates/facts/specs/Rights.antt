@@ -1,5 +1,6 @@
 -- What an accepted entering of a right says, as a record; a refused one changes nothing.
-use Rattle.laws.specs.Base.{◌≡◌, sym, ap₂, ◌∙◌, true, false, ◌++◌, ℕ, ◌+◌, ◌*◌, ◌<◌, ◌≤◌, arith, length}
+use Rattle.std.specs.Prelude.{◌≡◌, ◌++◌, ◌+◌, ◌*◌, ◌<◌, ◌≤◌}
+use Rattle.laws.specs.Base.{sym, ap₂, ◌∙◌, true, false, ℕ, arith, length}
 use Rattle.laws.specs.Tests.{◌or◌, neg, is}
 use Rattle.laws.specs.Tests.Laws.{split, and_left, and_right, and_both, or_left, or_right, neg_no, neg_true, neg_false, is_yes, is_no, is_equal, is_other}
 use Rattle.laws.specs.Lists.{has}

@@ -1,5 +1,6 @@
 -- Every series stands for a sender of the book, and a sender keeps its slot: an acceptance invents at most one sender, the message's, and puts it behind all others.
-use Rattle.laws.specs.Base.{◌≡◌, refl, sym, ap, ◌∙◌, true, false, some, List, [], ◌∷◌, ◌++◌, map, ℕ, zero, suc, ◌≤◌, ◌<◌, arith, length, get_or, length-map}
+use Rattle.std.specs.Prelude.{◌≡◌, ◌∷◌, ◌++◌, ◌≤◌, ◌<◌}
+use Rattle.laws.specs.Base.{refl, sym, ap, ◌∙◌, true, false, some, List, [], map, ℕ, zero, suc, arith, length, get_or, length-map}
 use Rattle.laws.specs.Tests.{◌and◌, is}
 use Rattle.laws.specs.Tests.Laws.{split, clash, and_left, and_right, and_both, or_yes_left, is_other}
 use Rattle.laws.specs.Lists.{same, place, nth, has, apart, keep, All}

@@ -1,6 +1,7 @@
 -- Settled positions: every buyer and every seller of a pair is in the list of parties, no party and no pair stands there twice, so that as much is bought as is sold; every pair of a
 -- sound book has its final at a closed position; and the sums slot by slot, each pair at the first slot that has it.
-use Rattle.laws.specs.Base.{◌≡◌, refl, sym, ap, ◌∙◌, Bool, true, false, cond, some, List, [], ◌∷◌, ◌++◌, map, ℕ, suc, ◌+◌, ◌≤◌, ◌<◌, arith, length, take, drop, get_or, take-append-drop, append-nil, add-one, drop-drop, take-suc}
+use Rattle.std.specs.Prelude.{◌≡◌, ◌∷◌, ◌++◌, ◌+◌, ◌≤◌, ◌<◌}
+use Rattle.laws.specs.Base.{refl, sym, ap, ◌∙◌, Bool, true, false, cond, some, List, [], map, ℕ, suc, arith, length, take, drop, get_or, take-append-drop, append-nil, add-one, drop-drop, take-suc}
 use Rattle.laws.specs.Tests.{◌and◌, ◌or◌, neg, is, less}
 use Rattle.laws.specs.Tests.Laws.{split, clash, and_left, and_right, and_both, and_no_right, or_left, or_right, or_yes_left, or_yes_right, or_else, or_false, is_equal, is_other, is_no, less_false, less_no, neg_false}
 use Rattle.laws.specs.Lists.{same, place, has, apart, keep, total, All, once}

@@ -1,6 +1,7 @@
 -- Where every series stands for a sender that is one of its two parties, the counterpart of a trade is the other party's trade with its pair: a pair has two
 -- parties, and a slot has one sender.
-use Rattle.laws.specs.Base.{◌≡◌, refl, sym, ap, ◌∙◌, true, false, some, List, take}
+use Rattle.std.specs.Prelude.{◌≡◌}
+use Rattle.laws.specs.Base.{refl, sym, ap, ◌∙◌, true, false, some, List, take}
 use Rattle.laws.specs.Tests.{◌and◌, neg, is}
 use Rattle.laws.specs.Tests.Laws.{split, and_left, and_right, and_no_left, or_else, neg_yes, neg_true, neg_false, is_yes, is_no, is_equal, is_other, and_agree}
 use Rattle.laws.specs.Lists.{same, has, All}

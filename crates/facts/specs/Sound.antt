@@ -1,5 +1,6 @@
 -- What soundness says, as records: whoever needs a clause takes it here by name, and no other file counts the conjuncts of the definition.
-use Rattle.laws.specs.Base.{◌≡◌, true, false, List, ℕ, ◌/◌, ◌%◌, ◌≤◌, arith, length, drop, length-take-le}
+use Rattle.std.specs.Prelude.{◌≡◌, ◌/◌, ◌%◌, ◌≤◌}
+use Rattle.laws.specs.Base.{true, false, List, ℕ, arith, length, drop, length-take-le}
 use Rattle.laws.specs.Tests.{◌or◌, is}
 use Rattle.laws.specs.Tests.Laws.{split, and_left, and_right, and_both, or_no, or_yes_left, or_yes_right, or_else, neg_true, neg_false, is_yes, is_equal, upto_yes, upto_true}
 use Rattle.laws.specs.Lists.{apart, All}

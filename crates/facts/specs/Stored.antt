@@ -1,6 +1,7 @@
 -- After an acceptance the sender holds what the message has, under every test that the key decides, and everyone else what they held: a stored series of the sender is replaced
 -- by the message's with its key, a new one is added, and none is absent from the message.
-use Rattle.laws.specs.Base.{◌≡◌, refl, sym, ap, ◌∙◌, Bool, true, false, cond, Option, none, some, option_map, List, [], ◌∷◌, map, ℕ, length}
+use Rattle.std.specs.Prelude.{◌≡◌, ◌∷◌}
+use Rattle.laws.specs.Base.{refl, sym, ap, ◌∙◌, Bool, true, false, cond, Option, none, some, option_map, List, [], map, ℕ, length}
 use Rattle.laws.specs.Tests.{is}
 use Rattle.laws.specs.Tests.Laws.{split, clash, neg_true, is_no}
 use Rattle.laws.specs.Lists.{same, find, has, keep, All}

@@ -1,5 +1,6 @@
 -- The trades of a sound book and of an accepted message are all of the day block's area: both areas are that one, and no capacity field is set. So no two trades of one sender share a pair.
-use Rattle.laws.specs.Base.{◌≡◌, true, false, List, ℕ, arith, length}
+use Rattle.std.specs.Prelude.{◌≡◌}
+use Rattle.laws.specs.Base.{true, false, List, ℕ, arith, length}
 use Rattle.laws.specs.Tests.Laws.{split, clash, and_left, and_right, is_yes, is_other}
 use Rattle.laws.specs.Lists.{apart, All}
 use Rattle.laws.specs.Lists.Each.{all_imply, all_both}

@@ -1,6 +1,7 @@
 -- What is written again where it stands changes nothing, and neither does the check of a block whose check is right, as four bytes hold a number in one way only. So a block
 -- whose mark or nets are true is left as it was by a conversion; and a book is its day block, its used slots and the rest.
-use Rattle.laws.specs.Base.{◌≡◌, refl, sym, ap, ◌∙◌, true, List, ◌++◌, ℕ, ◌+◌, ◌*◌, ◌/◌, ◌≤◌, ◌<◌, arith, length, take, drop, length-take-le}
+use Rattle.std.specs.Prelude.{◌≡◌, ◌++◌, ◌+◌, ◌*◌, ◌/◌, ◌≤◌, ◌<◌}
+use Rattle.laws.specs.Base.{refl, sym, ap, ◌∙◌, true, List, ℕ, arith, length, take, drop, length-take-le}
 use Rattle.laws.specs.Tests.Laws.{is_yes}
 use Rattle.laws.specs.Lists.{All}
 use Rattle.laws.specs.Lists.Each.{map_same}

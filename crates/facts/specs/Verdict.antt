@@ -1,5 +1,6 @@
 -- What rule 2 and a verdict of 0 say, as records: whoever needs a clause takes it here by name, and no other file counts the rules that were passed.
-use Rattle.laws.specs.Base.{◌≡◌, refl, sym, ◌∙◌, Bool, true, false, List, [], ◌∷◌, ◌++◌, ℕ, suc, ◌+◌, ◌/◌, ◌%◌, ◌≤◌, ◌<◌, arith, length, drop, length-drop, length-take-le}
+use Rattle.std.specs.Prelude.{◌≡◌, ◌∷◌, ◌++◌, ◌+◌, ◌/◌, ◌%◌, ◌≤◌, ◌<◌}
+use Rattle.laws.specs.Base.{refl, sym, ◌∙◌, Bool, true, false, List, [], ℕ, suc, arith, length, drop, length-drop, length-take-le}
 use Rattle.laws.specs.Tests.{◌and◌, ◌or◌, neg, is}
 use Rattle.laws.specs.Tests.Laws.{split, clash, and_left, and_right, and_both, and_no, or_left, or_right, or_no, neg_no, neg_true, is_yes, less_no, less_true, upto_yes, upto_no, upto_true}
 use Rattle.laws.specs.Lists.{same, has, apart, All}

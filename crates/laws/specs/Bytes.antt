@@ -1,6 +1,7 @@
 -- Parts of a list, lists written over, and numbers as bytes, the lowest first.
 pub mod Laws
-use Rattle.laws.specs.Base.{List, [], ◌∷◌, ℕ, zero, suc, ◌+◌, ◌*◌, ◌/◌, ◌%◌, take, drop, sets}
+use Rattle.std.specs.Prelude.{◌∷◌, ◌+◌, ◌*◌, ◌/◌, ◌%◌}
+use Rattle.laws.specs.Base.{List, [], ℕ, zero, suc, take, drop, sets}
 
 -- n elements from offset o
 unfoldable pub part : ℕ → ℕ → List ℕ → List ℕ

@@ -1,6 +1,7 @@
 -- A list cut into blocks of one width, and blocks joined.
 pub mod Laws
-use Rattle.laws.specs.Base.{List, [], ◌∷◌, ◌++◌, ℕ, zero, suc, ◌*◌, ◌/◌, length, take, drop}
+use Rattle.std.specs.Prelude.{◌∷◌, ◌++◌, ◌*◌, ◌/◌}
+use Rattle.laws.specs.Base.{List, [], ℕ, zero, suc, length, take, drop}
 
 module _ {A : Type 0} where
   -- the first k blocks of width w

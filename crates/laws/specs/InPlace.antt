@@ -1,5 +1,6 @@
 -- A list written over in place: by a rule, element by element (done); by another list, from the first element on (over).
-use Rattle.laws.specs.Base.{◌≡◌, refl, sym, ap, ap₂, ◌∙◌, List, [], ◌∷◌, ◌++◌, map, append_assoc, append-nil, ℕ, suc, ◌+◌, ◌≤◌, ◌<◌, add-one, arith, length, take, drop, get_or, set, drop_of_length-le, length-append, length-map, take-append-drop, drop-append-add, drop-cons, drop-drop, get_or_at, length-take-le, set_at, take_all, take_at, take-suc}
+use Rattle.std.specs.Prelude.{◌≡◌, ◌∷◌, ◌++◌, ◌+◌, ◌≤◌, ◌<◌}
+use Rattle.laws.specs.Base.{refl, sym, ap, ap₂, ◌∙◌, List, [], map, append_assoc, append-nil, ℕ, suc, add-one, arith, length, take, drop, get_or, set, drop_of_length-le, length-append, length-map, take-append-drop, drop-append-add, drop-cons, drop-drop, get_or_at, length-take-le, set_at, take_all, take_at, take-suc}
 use Rattle.laws.specs.Lists.Each.{map_append}
 
 module _ {X : Type 0} where

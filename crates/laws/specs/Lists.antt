@@ -1,5 +1,6 @@
 -- Lists searched, sieved and compared by tests.
-use Rattle.laws.specs.Base.{Bool, true, false, cond, Option, none, some, List, [], ◌∷◌, ℕ, zero, suc, ◌+◌}
+use Rattle.std.specs.Prelude.{◌∷◌, ◌+◌}
+use Rattle.laws.specs.Base.{Bool, true, false, cond, Option, none, some, List, [], ℕ, zero, suc}
 use Rattle.laws.specs.Tests.{◌and◌, ◌or◌, neg, is}
 pub mod Same
 pub mod Each

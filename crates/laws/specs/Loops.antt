@@ -1,7 +1,7 @@
 -- Laws of loops over a list: what the whole gives is what is kept and the rest give together.
 -- A turn at i is given by Step l i x (step_cut for blocks, step_byte for bytes), the end by End l i (end_cut, end_list).
-use Rattle.laws.specs.Base.{◌≡◌, refl, sym, ap, ap₂, ◌∙◌, Bool, true, false, cond, ◌&&◌, List, [], ◌∷◌, ◌++◌, append-nil, ℕ, zero, suc, ◌+◌, ◌-◌, ◌/◌, ◌≤◌, ◌<◌, add-zero, add-one, arith, length, take, drop, get_or, drop_of_length-le, length-drop, take-append-drop, drop-cons, length-take-le, take-add}
-use Rattle.std.specs.Prelude.{eqb}
+use Rattle.laws.specs.Base.{refl, sym, ap, ap₂, ◌∙◌, Bool, true, false, cond, List, [], append-nil, ℕ, zero, suc, add-zero, add-one, arith, length, take, drop, get_or, drop_of_length-le, length-drop, take-append-drop, drop-cons, length-take-le, take-add}
+use Rattle.std.specs.Prelude.{eqb, ◌≡◌, ◌&&◌, ◌∷◌, ◌++◌, ◌+◌, ◌-◌, ◌/◌, ◌≤◌, ◌<◌}
 use Rattle.laws.specs.Tests.{◌and◌, neg, is, below}
 use Rattle.laws.specs.Tests.Laws.{below_more, and_true, or_no}
 use Rattle.laws.specs.Lists.{same, further, place, has, every, apart, until}

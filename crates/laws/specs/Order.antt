@@ -1,6 +1,7 @@
 -- Answers in order. An answer has a number, and is a refusal where that is not 0; the first refusal wins.
 pub mod Laws
-use Rattle.laws.specs.Base.{cond, ℕ, zero, suc, ◌+◌}
+use Rattle.std.specs.Prelude.{◌+◌}
+use Rattle.laws.specs.Base.{cond, ℕ, zero, suc}
 use Rattle.laws.specs.Tests.{is}
 
 module _ {A : Type 0} (number : A → ℕ) where

@@ -1,5 +1,6 @@
 -- Laws of a slice's parts as code lends them: `&s[o..]` is take (length s - o) (drop o s), `&s[o..o + n]` is take (o + n - o) (drop o s).
-use Rattle.laws.specs.Base.{◌≡◌, refl, sym, ap, ◌∙◌, Bool, List, [], ◌∷◌, ◌++◌, append-nil, ℕ, suc, ◌+◌, ◌-◌, ◌≤◌, add-sub_cancel_left, add-zero, arith, length, take, drop, drop_of_length-le, length-drop, take-append-drop, drop-drop, set_out, take_all, take-nil}
+use Rattle.std.specs.Prelude.{◌≡◌, ◌∷◌, ◌++◌, ◌+◌, ◌-◌, ◌≤◌}
+use Rattle.laws.specs.Base.{refl, sym, ap, ◌∙◌, Bool, List, [], append-nil, ℕ, suc, add-sub_cancel_left, add-zero, arith, length, take, drop, drop_of_length-le, length-drop, take-append-drop, drop-drop, set_out, take_all, take-nil}
 use Rattle.laws.specs.Tests.{◌and◌}
 use Rattle.laws.specs.Lists.{same}
 use Rattle.laws.specs.Lists.Same.{same_split}

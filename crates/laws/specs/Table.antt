@@ -1,6 +1,7 @@
 -- A table of n numbers that holds what f gives at each place.
 pub mod Laws
-use Rattle.laws.specs.Base.{◌≡◌, Bool, true, List, [], ◌∷◌, ℕ, suc, ◌<◌, get_or}
+use Rattle.std.specs.Prelude.{◌≡◌, ◌∷◌, ◌<◌}
+use Rattle.laws.specs.Base.{Bool, true, List, [], ℕ, suc, get_or}
 use Rattle.laws.specs.Tests.{◌and◌, is}
 
 unfoldable pub Table : (ℕ → ℕ) → ℕ → List ℕ → Type 0

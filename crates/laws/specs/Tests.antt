@@ -1,7 +1,7 @@
 -- Tests: functions to Bool that stay folded until a proof names them, so that a goal shows them by name.
 pub mod Laws
-use Rattle.laws.specs.Base.{Bool, true, not, ◌&&◌, ◌||◌, ℕ, zero, suc}
-use Rattle.std.specs.Prelude.{eqb, leb, ltb}
+use Rattle.laws.specs.Base.{Bool, true, not, ℕ, zero, suc}
+use Rattle.std.specs.Prelude.{eqb, leb, ltb, ◌&&◌, ◌||◌}
 
 infixl 35 ◌and◌
 infixl 30 ◌or◌

@@ -1,7 +1,8 @@
 -- DEMAND 3, CALL BY CALL: what a promise on one call can cite. An accepted opening begins `Invariant book messages` (a record of Laws/Invariant), and so does an
 -- accepted conversion; every call keeps it, whatever it answers, and what is read of a book that has it is what the accepted messages give. `Later before after` (a
 -- record of Words) is what keeps finals. Each proof is one line, as on the page of promises.
-use Rattle.laws.specs.Base.{◌≡◌, true, cond, none, some, option_get_or, option_map, List, [], ℕ, ◌<◌}
+use Rattle.std.specs.Prelude.{◌≡◌, ◌<◌}
+use Rattle.laws.specs.Base.{true, cond, none, some, option_get_or, option_map, List, [], ℕ}
 use Rattle.laws.specs.Tests.{is}
 use Rattle.laws.specs.Lists.{find, nth}
 use Rattle.paper.specs.Layout.{Bytes, Block, area, net, pair}

@@ -1,6 +1,7 @@
 -- THE PAGE OF PROMISES. Each promise is stated in the words of `paper`, with a few more that stand in Words; each proof is one line that cites the file that carries
 -- the weight.
-use Rattle.laws.specs.Base.{◌≡◌, true, false, none, some, option_get_or, option_map, List, [], ◌∷◌, ◌++◌, ℕ, ◌+◌, ◌-◌, ◌*◌, ◌≤◌, ◌<◌, length, drop, get_or}
+use Rattle.std.specs.Prelude.{◌≡◌, ◌∷◌, ◌++◌, ◌+◌, ◌-◌, ◌*◌, ◌≤◌, ◌<◌}
+use Rattle.laws.specs.Base.{true, false, none, some, option_get_or, option_map, List, [], ℕ, length, drop, get_or}
 use Rattle.laws.specs.Tests.{◌or◌}
 use Rattle.laws.specs.Lists.{same, find, nth, has, apart, keep, total, All}
 use Rattle.laws.specs.Bytes.{little}

@@ -1,6 +1,7 @@
 -- The words of the promises that are not the paper's: what is kept of a block, the call that a desk begins with, the desk after some calls, calls that do not open the
 -- book again, what keeps finals, the readings in terms of the accepted messages, and a promise that determines what it promises.
-use Rattle.laws.specs.Base.{◌≡◌, Bool, true, cond, Option, none, some, option_map, List, [], ◌∷◌, ◌++◌, ℕ, ◌+◌, ◌-◌, ◌≤◌, ◌<◌}
+use Rattle.std.specs.Prelude.{◌≡◌, ◌∷◌, ◌++◌, ◌+◌, ◌-◌, ◌≤◌, ◌<◌}
+use Rattle.laws.specs.Base.{Bool, true, cond, Option, none, some, option_map, List, [], ℕ}
 use Rattle.laws.specs.Tests.{◌and◌, ◌or◌, neg, is, less}
 use Rattle.laws.specs.Lists.{same, find, has}
 use Rattle.laws.specs.Bytes.{part, number}

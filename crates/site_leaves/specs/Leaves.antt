@@ -1,5 +1,6 @@
 -- What the check on site asks of the definitions where no book is needed.
-use Rattle.laws.specs.Base.{Bool, [], ◌∷◌, ℕ, replicate}
+use Rattle.std.specs.Prelude.{◌∷◌}
+use Rattle.laws.specs.Base.{Bool, [], ℕ, replicate}
 use Rattle.laws.specs.Tests.{◌and◌, is}
 use Rattle.laws.specs.Bytes.{written}
 use Rattle.paper.specs.Layout.{Bytes}

@@ -1,5 +1,6 @@
 -- The quantity texts of the check on site are read, and one is printed, as is expected of them.
-use Rattle.laws.specs.Base.{◌≡◌, refl, true, replicate}
+use Rattle.std.specs.Prelude.{◌≡◌}
+use Rattle.laws.specs.Base.{refl, true, replicate}
 use Rattle.laws.specs.Lists.{same}
 use Rattle.laws.specs.Bytes.{part}
 use Rattle.paper.specs.QuantityText.{quantity_printed, printed_into}

@@ -1,5 +1,6 @@
 -- Each useless version of the desk contradicts a promise: one book and one message or two show it, by computation.
-use Rattle.laws.specs.Base.{◌≡◌, refl, sym, ap, ◌∙◌, true, Option, none, some, option_map, List, [], ◌∷◌, ◌++◌, map, ℕ, ◌+◌, ◌*◌, arith, length, take, drop, get_or, replicate}
+use Rattle.std.specs.Prelude.{◌≡◌, ◌∷◌, ◌++◌, ◌+◌, ◌*◌}
+use Rattle.laws.specs.Base.{refl, sym, ap, ◌∙◌, true, Option, none, some, option_map, List, [], map, ℕ, arith, length, take, drop, get_or, replicate}
 use Rattle.laws.specs.Tests.Laws.{is_equal}
 use Rattle.laws.specs.Lists.{find, nth}
 use Rattle.laws.specs.Bytes.Laws.{number_1}

@@ -1,5 +1,6 @@
 -- Laws of parts, of lists written over, and of numbers as bytes: what is read after what was written.
-use Rattle.laws.specs.Base.{◌≡◌, refl, sym, ap, ◌∙◌, List, [], ◌∷◌, ◌++◌, append_assoc, append-nil, ℕ, zero, suc, ◌+◌, ◌-◌, ◌*◌, ◌/◌, ◌%◌, ◌^◌, ◌≤◌, ◌<◌, add-suc, add-zero, lt_of_lt_of_le, pow-le-pow_right, pow-suc, pow-zero, suc-add, zero-add, add-one, arith, length, take, drop, get_or, set, replicate, drop_of_length-le, length-drop, length-set, length-take, replicate-append-replicate, take-append-drop, drop-append-add, drop-append-le, drop_at, drop-drop, drop-set-add, drop-set-lt, length-sets, length-take-le, set-append_left, set_comm, sets, sets-eq, take-add, take_all, take-append-le, take_at, take-nil, take-set-le, take-set-lt, take-suc-set, take-take}
+use Rattle.std.specs.Prelude.{◌≡◌, ◌∷◌, ◌++◌, ◌+◌, ◌-◌, ◌*◌, ◌/◌, ◌%◌, ◌^◌, ◌≤◌, ◌<◌}
+use Rattle.laws.specs.Base.{refl, sym, ap, ◌∙◌, List, [], append_assoc, append-nil, ℕ, zero, suc, add-suc, add-zero, lt_of_lt_of_le, pow-le-pow_right, pow-suc, pow-zero, suc-add, zero-add, add-one, arith, length, take, drop, get_or, set, replicate, drop_of_length-le, length-drop, length-set, length-take, replicate-append-replicate, take-append-drop, drop-append-add, drop-append-le, drop_at, drop-drop, drop-set-add, drop-set-lt, length-sets, length-take-le, set-append_left, set_comm, sets, sets-eq, take-add, take_all, take-append-le, take_at, take-nil, take-set-le, take-set-lt, take-suc-set, take-take}
 use Rattle.laws.specs.Lists.{All}
 use Rattle.laws.specs.Lists.Each.{all_take, all_drop, drop_take}
 use Rattle.laws.specs.Bytes.{part, written, value, little, number}

@@ -1,6 +1,6 @@
 -- Laws of lists cut into blocks: block by block, cut and joined again, and written over in one block. They hold for any width, 0 too, but where one asks for more.
-use Rattle.laws.specs.Base.{◌≡◌, refl, sym, ap, ap₂, ◌∙◌, List, [], ◌∷◌, ◌++◌, append_assoc, ℕ, zero, suc, ◌+◌, ◌-◌, ◌*◌, ◌/◌, ◌≤◌, ◌<◌, add_comm, add-zero, div-eq_of_lt, div-zero, le_trans, lt-mul-div-succ, mul-add-div, mul-div_cancel_left, mul-div-le, mul-le-mul_left, mul-suc, mul-zero, sub-zero, zero-add, zero-div, zero-mul, add-one, arith, length, take, drop, get_or, set, drop_of_length-le, length-append, length-drop, take-append-drop, drop-append-le, drop_at, drop-cons, drop-drop, length-take-le, take-append-le, take_at, take-take}
-use Rattle.std.specs.Prelude.{◌⊎◌}
+use Rattle.laws.specs.Base.{refl, sym, ap, ap₂, ◌∙◌, List, [], append_assoc, ℕ, zero, suc, add_comm, add-zero, div-eq_of_lt, div-zero, le_trans, lt-mul-div-succ, mul-add-div, mul-div_cancel_left, mul-div-le, mul-le-mul_left, mul-suc, mul-zero, sub-zero, zero-add, zero-div, zero-mul, add-one, arith, length, take, drop, get_or, set, drop_of_length-le, length-append, length-drop, take-append-drop, drop-append-le, drop_at, drop-cons, drop-drop, length-take-le, take-append-le, take_at, take-take}
+use Rattle.std.specs.Prelude.{◌⊎◌, ◌≡◌, ◌∷◌, ◌++◌, ◌+◌, ◌-◌, ◌*◌, ◌/◌, ◌≤◌, ◌<◌}
 use Rattle.std.proofs.Common.{inl, inr}
 use Rattle.laws.specs.Tests.Laws.{lt_or}
 use Rattle.laws.specs.Lists.{All}

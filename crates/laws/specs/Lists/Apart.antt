@@ -1,5 +1,6 @@
 -- No element clashes with a later one.
-use Rattle.laws.specs.Base.{◌≡◌, refl, sym, Bool, true, false, List, [], ◌∷◌, ◌++◌, map, ℕ, zero, suc, ◌<◌, arith, length, get_or}
+use Rattle.std.specs.Prelude.{◌≡◌, ◌∷◌, ◌++◌, ◌<◌}
+use Rattle.laws.specs.Base.{refl, sym, Bool, true, false, List, [], map, ℕ, zero, suc, arith, length, get_or}
 use Rattle.laws.specs.Tests.{◌and◌, ◌or◌, neg, is}
 use Rattle.laws.specs.Tests.Laws.{split, clash, and_left, and_right, and_both, or_yes_left, or_yes_right, neg_yes, neg_true, neg_false, is_equal}
 use Rattle.laws.specs.Lists.{further, place, apart, keep, All, has, every}

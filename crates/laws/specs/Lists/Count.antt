@@ -1,5 +1,6 @@
 -- How many elements pass a test (count), and the sum of what each gives (total).
-use Rattle.laws.specs.Base.{◌≡◌, refl, sym, ap, ◌∙◌, Bool, true, cond, List, [], ◌∷◌, ◌++◌, map, ℕ, suc, ◌+◌, ◌-◌, ◌*◌, ◌≤◌, ◌<◌, mul-suc, zero-add, add-one, arith, length, take, get_or, take-suc}
+use Rattle.std.specs.Prelude.{◌≡◌, ◌∷◌, ◌++◌, ◌+◌, ◌-◌, ◌*◌, ◌≤◌, ◌<◌}
+use Rattle.laws.specs.Base.{refl, sym, ap, ◌∙◌, Bool, true, cond, List, [], map, ℕ, suc, mul-suc, zero-add, add-one, arith, length, take, get_or, take-suc}
 use Rattle.laws.specs.Tests.{neg}
 use Rattle.laws.specs.Tests.Laws.{split, and_left, and_right, neg_yes, clash}
 use Rattle.laws.specs.Lists.{find, count, keep, total, of_found, All, apart}

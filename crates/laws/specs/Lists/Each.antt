@@ -1,5 +1,6 @@
 -- Each element: by its number, by a property of all (All), by a test that all pass (every), and changed (map).
-use Rattle.laws.specs.Base.{◌≡◌, refl, sym, ap, ap₂, ◌∙◌, Bool, true, false, true≢false, some, option_map, List, [], ◌∷◌, ◌++◌, map, ℕ, zero, suc, ◌+◌, ◌≤◌, ◌<◌, suc-add, zero-add, add-one, arith, length, take, drop, get_or, take-nil, take-suc}
+use Rattle.std.specs.Prelude.{◌≡◌, ◌∷◌, ◌++◌, ◌+◌, ◌≤◌, ◌<◌}
+use Rattle.laws.specs.Base.{refl, sym, ap, ap₂, ◌∙◌, Bool, true, false, true≢false, some, option_map, List, [], map, ℕ, zero, suc, suc-add, zero-add, add-one, arith, length, take, drop, get_or, take-nil, take-suc}
 use Rattle.laws.specs.Tests.{◌and◌}
 use Rattle.laws.specs.Tests.Laws.{split, clash, and_left, and_right, and_both, and_true}
 use Rattle.laws.specs.Lists.{find, nth, every, keep, until, All}

@@ -1,5 +1,6 @@
 -- The elements that pass a test (keep), and those before the first that passes (until).
-use Rattle.laws.specs.Base.{◌≡◌, refl, sym, ap, ◌∙◌, Bool, true, false, List, [], ◌∷◌, ◌++◌, map, ℕ, zero, suc, ◌+◌, ◌-◌, ◌≤◌, ◌<◌, arith, length, take, drop, get_or, length-drop, take-append-drop, take_all}
+use Rattle.std.specs.Prelude.{◌≡◌, ◌∷◌, ◌++◌, ◌+◌, ◌-◌, ◌≤◌, ◌<◌}
+use Rattle.laws.specs.Base.{refl, sym, ap, ◌∙◌, Bool, true, false, List, [], map, ℕ, zero, suc, arith, length, take, drop, get_or, length-drop, take-append-drop, take_all}
 use Rattle.laws.specs.Tests.Laws.{split, cond_apply, or_left, or_right, or_no}
 use Rattle.laws.specs.Lists.{has, count, keep, until, All}
 use Rattle.laws.specs.Lists.Each.{all_each}

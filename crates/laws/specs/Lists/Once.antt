@@ -1,5 +1,6 @@
 -- Each of some lists of numbers once: none twice, every one of them, and what one more at the end adds; sums by a name, each name once.
-use Rattle.laws.specs.Base.{◌≡◌, refl, sym, ap, ◌∙◌, true, false, cond, List, [], ◌∷◌, ◌++◌, ℕ, ◌+◌, arith}
+use Rattle.std.specs.Prelude.{◌≡◌, ◌∷◌, ◌++◌, ◌+◌}
+use Rattle.laws.specs.Base.{refl, sym, ap, ◌∙◌, true, false, cond, List, [], ℕ, arith}
 use Rattle.laws.specs.Tests.{◌and◌, ◌or◌, neg}
 use Rattle.laws.specs.Tests.Laws.{split, and_both, and_no_right, neg_true, neg_false}
 use Rattle.laws.specs.Lists.{same, has, apart, keep, total, of_found, All, once}

@@ -1,5 +1,6 @@
 -- Two lists of numbers that are the same.
-use Rattle.laws.specs.Base.{◌≡◌, refl, sym, ap, ap₂, ◌∙◌, true, false, false≢true, List, [], ◌∷◌, ℕ, zero, suc, length, take, drop}
+use Rattle.std.specs.Prelude.{◌≡◌, ◌∷◌}
+use Rattle.laws.specs.Base.{refl, sym, ap, ap₂, ◌∙◌, true, false, false≢true, List, [], ℕ, zero, suc, length, take, drop}
 use Rattle.laws.specs.Tests.{◌and◌, is}
 use Rattle.laws.specs.Tests.Laws.{split, clash, and_left, and_right, and_both, and_assoc, is_yes, is_same}
 use Rattle.laws.specs.Lists.{same}

@@ -1,5 +1,6 @@
 -- The first element that passes a test: whether there is one (has), which it is (find), at what place it stands (place).
-use Rattle.laws.specs.Base.{◌≡◌, refl, sym, ap, ◌∙◌, Bool, true, false, cond, false≢true, true≢false, none, some, option_map, List, [], ◌∷◌, ◌++◌, map, ℕ, zero, suc, ◌+◌, ◌-◌, ◌≤◌, ◌<◌, add-one, arith, length, take, get_or, length-take-le, take-suc}
+use Rattle.std.specs.Prelude.{◌≡◌, ◌∷◌, ◌++◌, ◌+◌, ◌-◌, ◌≤◌, ◌<◌}
+use Rattle.laws.specs.Base.{refl, sym, ap, ◌∙◌, Bool, true, false, cond, false≢true, true≢false, none, some, option_map, List, [], map, ℕ, zero, suc, add-one, arith, length, take, get_or, length-take-le, take-suc}
 use Rattle.laws.specs.Tests.{◌and◌, ◌or◌, neg, is, upto, below}
 use Rattle.laws.specs.Tests.Laws.{split, clash, cond_apply, and_both, and_no_left, and_no_right, or_left, or_right, or_no, or_false, or_exchange, neg_true, neg_false, neg_and_neg, is_yes, is_no, is_equal, is_other, is_same, upto_yes, upto_no, upto_true, upto_false}
 use Rattle.laws.specs.Lists.{further, find, place, nth, has, every, keep, All}

@@ -1,5 +1,6 @@
 -- Laws of answers in order: one before another, and along positions, for a loop that stops at the first refusal and for one that keeps it.
-use Rattle.laws.specs.Base.{◌≡◌, refl, sym, ap, ap₂, ◌∙◌, ℕ, zero, suc, ◌+◌, ◌-◌, ◌≤◌, ◌<◌, arith}
+use Rattle.std.specs.Prelude.{◌≡◌, ◌+◌, ◌-◌, ◌≤◌, ◌<◌}
+use Rattle.laws.specs.Base.{refl, sym, ap, ap₂, ◌∙◌, ℕ, zero, suc, arith}
 use Rattle.std.proofs.Math.Decide.{ℕ_discrete}
 use Rattle.laws.specs.Tests.{is}
 use Rattle.laws.specs.Tests.Laws.{split, is_yes, is_no, is_equal, is_other}

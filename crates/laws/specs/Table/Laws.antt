@@ -1,5 +1,6 @@
 -- One test, computed over a whole table, gives its rule at each entry.
-use Rattle.laws.specs.Base.{◌≡◌, true, List, [], ◌∷◌, ℕ, zero, suc, ◌+◌, ◌<◌, add-suc, add-zero, suc-add, zero-add, arith, length, get_or}
+use Rattle.std.specs.Prelude.{◌≡◌, ◌∷◌, ◌+◌, ◌<◌}
+use Rattle.laws.specs.Base.{true, List, [], ℕ, zero, suc, add-suc, add-zero, suc-add, zero-add, arith, length, get_or}
 use Rattle.laws.specs.Tests.{is}
 use Rattle.laws.specs.Tests.Laws.{and_left, and_right, is_yes}
 use Rattle.laws.specs.Table.{Table, tabulates}

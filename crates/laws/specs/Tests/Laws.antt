@@ -1,6 +1,6 @@
 -- Laws of tests: what a test says of its parts, and how a test is made true or false.
-use Rattle.laws.specs.Base.{◌≡◌, refl, sym, ap, ◌∙◌, Bool, true, false, cond, not, false≢true, true≢false, ℕ, zero, suc, ◌+◌, ◌≤◌, ◌<◌, add-one, arith}
-use Rattle.std.specs.Prelude.{◌⊎◌}
+use Rattle.laws.specs.Base.{refl, sym, ap, ◌∙◌, Bool, true, false, cond, not, false≢true, true≢false, ℕ, zero, suc, add-one, arith}
+use Rattle.std.specs.Prelude.{◌⊎◌, ◌≡◌, ◌+◌, ◌≤◌, ◌<◌}
 use Rattle.std.proofs.Common.{inl, inr, ltb-true, ltb-false, leb-true, leb-false, eqb-true, lt-ltb, le-ltb, le-leb, eq-eqb, ne_eqb}
 use Rattle.std.proofs.lemmas.Bool.{not-true, not-false, eqb-false, lt-leb}
 use Rattle.laws.specs.Tests.{◌and◌, ◌or◌, neg, is, less, upto, below}

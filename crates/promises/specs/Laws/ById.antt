@@ -1,6 +1,7 @@
 -- Two rows of series that agree in content under every key agree under every id too, if in each no id and no key stands twice: a series is then the only one
 -- with its key and the only one with its id, and id and key are of its content.
-use Rattle.laws.specs.Base.{◌≡◌, refl, sym, ap, ◌∙◌, Bool, true, false, true≢false, Option, none, some, option_map, List, [], ◌∷◌, ◌++◌, ℕ, zero, suc, ◌+◌, ◌≤◌, arith, length, length-append}
+use Rattle.std.specs.Prelude.{◌≡◌, ◌∷◌, ◌++◌, ◌+◌, ◌≤◌}
+use Rattle.laws.specs.Base.{refl, sym, ap, ◌∙◌, Bool, true, false, true≢false, Option, none, some, option_map, List, [], ℕ, zero, suc, arith, length, length-append}
 use Rattle.laws.specs.Tests.{neg}
 use Rattle.laws.specs.Tests.Laws.{split, clash, and_left, and_right, and_both, neg_yes, neg_true, or_yes_left, or_yes_right}
 use Rattle.laws.specs.Lists.{further, find, place, nth, apart, All}

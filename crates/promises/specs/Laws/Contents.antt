@@ -1,6 +1,7 @@
 -- Two lists, each of series of one sender in a sound book, with the same contents in whatever order: a test that reads contents alone passes on one of them exactly
 -- if it does on the other, and the series under a key has the same content in both, since a sender has no key twice.
-use Rattle.laws.specs.Base.{◌≡◌, refl, sym, ap, ◌∙◌, Bool, true, false, true≢false, some, List, [], ◌∷◌, ◌++◌, ℕ, ◌+◌, ◌-◌, ◌≤◌, arith, length, take, drop, length-append, drop_at, take_at}
+use Rattle.std.specs.Prelude.{◌≡◌, ◌∷◌, ◌++◌, ◌+◌, ◌-◌, ◌≤◌}
+use Rattle.laws.specs.Base.{refl, sym, ap, ◌∙◌, Bool, true, false, true≢false, some, List, [], ℕ, arith, length, take, drop, length-append, drop_at, take_at}
 use Rattle.laws.specs.Tests.{neg}
 use Rattle.laws.specs.Tests.Laws.{split, clash, and_left, and_right, neg_yes}
 use Rattle.laws.specs.Lists.{find, has, apart, All}

@@ -1,6 +1,7 @@
 -- A conversion works marks and nets out from what it leaves as it was, so those that it writes are true; every other byte stays, and where marks and nets were true
 -- before, these stay too.
-use Rattle.laws.specs.Base.{◌≡◌, refl, sym, ap, ◌∙◌, Bool, true, Option, none, some, option_map, List, ◌++◌, map, ℕ, ◌+◌, ◌*◌, ◌<◌, arith, length, drop}
+use Rattle.std.specs.Prelude.{◌≡◌, ◌++◌, ◌+◌, ◌*◌, ◌<◌}
+use Rattle.laws.specs.Base.{refl, sym, ap, ◌∙◌, Bool, true, Option, none, some, option_map, List, map, ℕ, arith, length, drop}
 use Rattle.laws.specs.Tests.{is}
 use Rattle.laws.specs.Tests.Laws.{split, is_yes, is_no}
 use Rattle.laws.specs.Lists.{find, nth, All}

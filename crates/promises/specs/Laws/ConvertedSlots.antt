@@ -1,5 +1,6 @@
 -- A conversion moves no block: what it writes is read back in the slots where the blocks stood, each of its kind, a sender with its EIC and a series with its sender.
-use Rattle.laws.specs.Base.{◌≡◌, sym, ap, ◌∙◌, Bool, true, false, List, [], ◌++◌, map, ℕ, ◌+◌, ◌*◌, ◌/◌, ◌≤◌, arith, length, drop, length-map}
+use Rattle.std.specs.Prelude.{◌≡◌, ◌++◌, ◌+◌, ◌*◌, ◌/◌, ◌≤◌}
+use Rattle.laws.specs.Base.{sym, ap, ◌∙◌, Bool, true, false, List, [], map, ℕ, arith, length, drop, length-map}
 use Rattle.laws.specs.Tests.{◌or◌}
 use Rattle.laws.specs.Lists.{count, keep}
 use Rattle.laws.specs.Lists.Each.{all_imply, all_each, all_map}

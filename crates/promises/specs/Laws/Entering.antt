@@ -1,6 +1,7 @@
 -- A right that is entered stands behind all used slots: no search for a sender, a series or a counterpart meets it, so each finds what it found; and the book stays sound, as no stored right is
 -- like it in all but limits.
-use Rattle.laws.specs.Base.{◌≡◌, refl, sym, ap, ap₂, ◌∙◌, Bool, true, false, cond, Option, some, option_map, List, [], ◌∷◌, ◌++◌, map, append_assoc, append-nil, ℕ, zero, ◌+◌, ◌*◌, ◌/◌, ◌≤◌, ◌<◌, arith, length, take, drop, length-append, take_at, drop_at}
+use Rattle.std.specs.Prelude.{◌≡◌, ◌∷◌, ◌++◌, ◌+◌, ◌*◌, ◌/◌, ◌≤◌, ◌<◌}
+use Rattle.laws.specs.Base.{refl, sym, ap, ap₂, ◌∙◌, Bool, true, false, cond, Option, some, option_map, List, [], map, append_assoc, append-nil, ℕ, zero, arith, length, take, drop, length-append, take_at, drop_at}
 use Rattle.laws.specs.Tests.{◌and◌, ◌or◌, neg, is}
 use Rattle.laws.specs.Tests.Laws.{split, clash, and_left, and_right, and_both, and_no_left, and_no_right, or_yes_left, or_yes_right, or_else, neg_true, is_yes, is_equal}
 use Rattle.laws.specs.Lists.{same, find, has, place, nth, every, count, keep, apart, All}

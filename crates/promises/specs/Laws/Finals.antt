@@ -1,6 +1,7 @@
 -- A final value once given stays: the clock does not fall and the lead does not change, so a closed position stays closed; the rule does not change; a trade once held
 -- stays held, by rule 16, and its id is tied to its key, by rule 7; no message changes a value at a closed position, nor brings one in, by rule 14; and neither a conversion nor a right that is entered changes a value.
-use Rattle.laws.specs.Base.{◌≡◌, refl, sym, ap, ◌∙◌, Bool, true, false, cond, true≢false, Option, none, some, option_get_or, option_map, List, [], ◌∷◌, ◌++◌, ℕ, zero, suc, ◌+◌, ◌-◌, ◌*◌, ◌≤◌, ◌<◌, le_refl, le_trans, arith}
+use Rattle.std.specs.Prelude.{◌≡◌, ◌∷◌, ◌++◌, ◌+◌, ◌-◌, ◌*◌, ◌≤◌, ◌<◌}
+use Rattle.laws.specs.Base.{refl, sym, ap, ◌∙◌, Bool, true, false, cond, true≢false, Option, none, some, option_get_or, option_map, List, [], ℕ, zero, suc, le_refl, le_trans, arith}
 use Rattle.laws.specs.Tests.{◌or◌, neg, is, less}
 use Rattle.laws.specs.Tests.Laws.{split, or_left, or_right, or_yes_left, or_yes_right, or_else, neg_yes, neg_true, is_yes, is_no, less_no, upto_no, upto_false}
 use Rattle.laws.specs.Lists.{same, find, has, keep, All}

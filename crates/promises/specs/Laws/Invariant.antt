@@ -1,6 +1,7 @@
 -- What holds of a book and the messages accepted since it began: it holds after an accepted opening, and after an accepted conversion with the messages kept; each call
 -- keeps it, and so it holds after any calls.
-use Rattle.laws.specs.Base.{◌≡◌, refl, sym, ap, ◌∙◌, Bool, true, cond, some, option_map, List, [], ◌∷◌, ◌++◌, ℕ, ◌≤◌, ◌<◌, arith, length}
+use Rattle.std.specs.Prelude.{◌≡◌, ◌∷◌, ◌++◌, ◌≤◌, ◌<◌}
+use Rattle.laws.specs.Base.{refl, sym, ap, ◌∙◌, Bool, true, cond, some, option_map, List, [], ℕ, arith, length}
 use Rattle.laws.specs.Tests.{is, less}
 use Rattle.laws.specs.Tests.Laws.{split, is_yes, is_no, is_equal, less_yes, less_no}
 use Rattle.laws.specs.Lists.{same, find, apart, All}
@@ -171,10 +172,14 @@ invariant_kept book s m v =
       within = λ e. rw (own e) (record { few = own_few book s e; small = own_small book s e });
     }
 
+-- the same of a list that is these messages: where it is another, that is told at once, and no definition is looked into
+invariant_same : (book : Bytes) (ms : List Bytes) → ms ≡ kept_messages (used book) → Invariant book (kept_messages (used book)) → Invariant book ms
+invariant_same book ms p v = rw p v
+
 pub invariant_converted : (book : Bytes) → conversion_number book ≡ 0 → Invariant (converted book) (kept_messages (used (converted book)))
 invariant_converted book e =
     let c : Converts book = converts book e in
-    invariant_kept (converted book) (sound_converted book c) (marks_converted book c) (nets_converted book c)
+    invariant_same (converted book) _ (grind arith) (invariant_kept (converted book) (sound_converted book c) (marks_converted book c) (nets_converted book c))
 
 invariant_moved : (book : Bytes) (ms : List Bytes) (minute : ℕ) → Moves book minute → Invariant book ms → Invariant (clock_moved book minute) ms
 invariant_moved book ms minute m v =

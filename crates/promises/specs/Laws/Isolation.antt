@@ -1,6 +1,7 @@
 -- Past rule 1 the verdict is worked out from the day block, the sender's own stored blocks and rights, the number of free slots and the message, and takes nothing else
 -- as an argument. Of the sender block the rules read kind, id and version; of the series id, key, version and quantities, and of the rights all bytes, whatever their order.
-use Rattle.laws.specs.Base.{◌≡◌, refl, sym, ◌∙◌, true, List, [], ◌∷◌, ◌++◌, ℕ, ◌+◌, arith}
+use Rattle.std.specs.Prelude.{◌≡◌, ◌∷◌, ◌++◌, ◌+◌}
+use Rattle.laws.specs.Base.{refl, sym, ◌∙◌, true, List, [], ℕ, arith}
 use Rattle.laws.specs.Lists.{has}
 use Rattle.laws.specs.Lists.Each.{all_each}
 use Rattle.laws.specs.Lists.Count.{count_agree}

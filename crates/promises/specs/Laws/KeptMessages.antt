@@ -1,5 +1,6 @@
 -- The messages that a sound book keeps: the latest of a sender is its sender block and its series as they are stored, so the plain rule reads of them what the book has.
-use Rattle.laws.specs.Base.{◌≡◌, refl, sym, ap, ◌∙◌, true, false, Option, none, some, option_map, List, length}
+use Rattle.std.specs.Prelude.{◌≡◌}
+use Rattle.laws.specs.Base.{refl, sym, ap, ◌∙◌, true, false, Option, none, some, option_map, List, length}
 use Rattle.laws.specs.Tests.Laws.{split}
 use Rattle.laws.specs.Lists.{find, has}
 use Rattle.laws.specs.Lists.Each.{all_find}

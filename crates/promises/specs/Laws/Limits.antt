@@ -1,6 +1,7 @@
 -- The schedules of an accepted message stay within their rights: each series on a right was judged with those before it, so that the sum over all of them is at or below the limit; and no sum that
 -- rule 19 compares is above twice the largest quantity.
-use Rattle.laws.specs.Base.{◌≡◌, refl, sym, ap, ◌∙◌, Bool, true, false, cond, Option, some, option_get_or, List, [], ◌∷◌, ◌++◌, append_assoc, append-nil, ℕ, ◌+◌, ◌≤◌, ◌<◌, arith}
+use Rattle.std.specs.Prelude.{◌≡◌, ◌∷◌, ◌++◌, ◌+◌, ◌≤◌, ◌<◌}
+use Rattle.laws.specs.Base.{refl, sym, ap, ◌∙◌, Bool, true, false, cond, Option, some, option_get_or, List, [], append_assoc, append-nil, ℕ, arith}
 use Rattle.laws.specs.Tests.{◌and◌}
 use Rattle.laws.specs.Tests.Laws.{split, and_left, and_right, and_both}
 use Rattle.laws.specs.Lists.{find, has, nth, keep, total, All}

@@ -1,6 +1,7 @@
 -- The partners that an acceptance writes are those that its looks have found: each mark that it puts right names the counterpart's slot among the blocks placed, which
 -- is what the looks find for the sender's series; and of a counterpart it is the slot of the placed series.
-use Rattle.laws.specs.Base.{◌≡◌, refl, sym, ap, ◌∙◌, Bool, true, false, true≢false, Option, none, some, option_map, List, [], ℕ, ◌+◌, ◌≤◌, ◌<◌, arith, length, get_or, length-map}
+use Rattle.std.specs.Prelude.{◌≡◌, ◌+◌, ◌≤◌, ◌<◌}
+use Rattle.laws.specs.Base.{refl, sym, ap, ◌∙◌, Bool, true, false, true≢false, Option, none, some, option_map, List, [], ℕ, arith, length, get_or, length-map}
 use Rattle.laws.specs.Tests.{◌and◌}
 use Rattle.laws.specs.Tests.Laws.{split, and_left, and_right, and_both, and_no_left, or_yes_right, is_equal, is_other}
 use Rattle.laws.specs.Lists.{find, has, place, nth, All}

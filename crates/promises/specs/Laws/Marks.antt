@@ -1,6 +1,7 @@
 -- True marks stay true: a mark is worked out anew for every series of the sender and for every trade with a pair of the sender's trades; any other series has neither
 -- that pair nor a counterpart among the blocks that change, so its mark is worked out from the same blocks as before.
-use Rattle.laws.specs.Base.{◌≡◌, refl, sym, ap, ◌∙◌, true, false, Option, none, some, option_map, List, map, ℕ, length}
+use Rattle.std.specs.Prelude.{◌≡◌}
+use Rattle.laws.specs.Base.{refl, sym, ap, ◌∙◌, true, false, Option, none, some, option_map, List, map, ℕ, length}
 use Rattle.laws.specs.Tests.Laws.{split, clash, and_both, and_no, or_right, or_yes_left, is_equal}
 use Rattle.laws.specs.Lists.{find, place, has, All}
 use Rattle.laws.specs.Lists.Each.{all_imply, all_both, all_find, all_map}

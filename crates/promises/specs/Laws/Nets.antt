@@ -1,6 +1,7 @@
 -- A sender's nets are the words of its sums at each position: within their range, for at most 200 quantities of at most 9,999,999 are summed; zero above n, for
 -- the quantities are.
-use Rattle.laws.specs.Base.{◌≡◌, refl, sym, ap, ◌∙◌, Bool, true, false, cond, List, ◌++◌, ℕ, zero, suc, ◌+◌, ◌-◌, ◌*◌, ◌%◌, ◌≤◌, ◌<◌, arith, length}
+use Rattle.std.specs.Prelude.{◌≡◌, ◌++◌, ◌+◌, ◌-◌, ◌*◌, ◌%◌, ◌≤◌, ◌<◌}
+use Rattle.laws.specs.Base.{refl, sym, ap, ◌∙◌, Bool, true, false, cond, List, ℕ, zero, suc, arith, length}
 use Rattle.std.proofs.Math.Decide.{ℕ_discrete}
 use Rattle.laws.specs.Tests.{upto}
 use Rattle.laws.specs.Tests.Laws.{split, and_both, or_yes_left, or_yes_right, upto_no, upto_true, below_each}

@@ -1,6 +1,7 @@
 -- True nets stay true: the nets kept for the message's sender are summed over the message, and its stored series are then the message's; another sender's block
 -- and series stay.
-use Rattle.laws.specs.Base.{◌≡◌, refl, sym, ap, ap₂, ◌∙◌, true, false, cond, Option, none, some, option_map, List, map, ℕ, ◌<◌, arith}
+use Rattle.std.specs.Prelude.{◌≡◌, ◌<◌}
+use Rattle.laws.specs.Base.{refl, sym, ap, ap₂, ◌∙◌, true, false, cond, Option, none, some, option_map, List, map, ℕ, arith}
 use Rattle.laws.specs.Tests.{is}
 use Rattle.laws.specs.Tests.Laws.{split}
 use Rattle.laws.specs.Lists.{same, find, has, keep, All}

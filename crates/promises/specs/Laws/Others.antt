@@ -1,6 +1,7 @@
 -- An acceptance renews the sender's own blocks alone, and marks anew besides these only trades with a pair of the sender's trades, which are their counterparts: any
 -- other block keeps its slot and every byte; and nothing is written before the used slots or behind them.
-use Rattle.laws.specs.Base.{◌≡◌, refl, sym, ap, ◌∙◌, true, false, some, option_map, List, ◌++◌, map, ℕ, ◌+◌, ◌*◌, length, drop}
+use Rattle.std.specs.Prelude.{◌≡◌, ◌++◌, ◌+◌, ◌*◌}
+use Rattle.laws.specs.Base.{refl, sym, ap, ◌∙◌, true, false, some, option_map, List, map, ℕ, length, drop}
 use Rattle.laws.specs.Tests.{◌and◌, is}
 use Rattle.laws.specs.Tests.Laws.{split, clash, and_left, and_right, and_both, and_no, and_no_left, or_else, is_no}
 use Rattle.laws.specs.Lists.{nth, has}

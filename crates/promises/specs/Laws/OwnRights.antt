@@ -1,6 +1,7 @@
 -- What soundness says of the rights that one sender holds: no two of them have the same areas, contract type and agreement. So which right a series names does not depend on the order in
 -- which they were entered.
-use Rattle.laws.specs.Base.{◌≡◌, refl, sym, ap, ◌∙◌, Bool, true, false, true≢false, Option, none, some, option_get_or, List, [], ◌∷◌, ℕ, length}
+use Rattle.std.specs.Prelude.{◌≡◌, ◌∷◌}
+use Rattle.laws.specs.Base.{refl, sym, ap, ◌∙◌, Bool, true, false, true≢false, Option, none, some, option_get_or, List, [], ℕ, length}
 use Rattle.laws.specs.Tests.{◌and◌}
 use Rattle.laws.specs.Tests.Laws.{split, clash, and_left, and_right, and_both}
 use Rattle.laws.specs.Lists.{same, find, has, place, nth, keep, apart, All}

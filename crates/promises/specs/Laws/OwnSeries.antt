@@ -1,6 +1,7 @@
 -- What soundness says of one sender's series: they are as many as its sender block counts, so at most 200, and none where it has no sender block; their quantities are in
 -- range; and no id and no key stands twice.
-use Rattle.laws.specs.Base.{◌≡◌, sym, ◌∙◌, Bool, true, false, List, [], ℕ, ◌≤◌, ◌<◌, arith, length}
+use Rattle.std.specs.Prelude.{◌≡◌, ◌≤◌, ◌<◌}
+use Rattle.laws.specs.Base.{sym, ◌∙◌, Bool, true, false, List, [], ℕ, arith, length}
 use Rattle.laws.specs.Tests.{less}
 use Rattle.laws.specs.Tests.Laws.{split, and_left, and_right, is_yes, less_yes, less_no, upto_yes}
 use Rattle.laws.specs.Lists.{has, keep, apart, All}

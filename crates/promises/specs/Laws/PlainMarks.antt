@@ -1,6 +1,7 @@
 -- The marks kept are the plain rule's: a true mark of a trade is worked out from its quantities and its counterpart's, these are what the two parties last sent
 -- under the pair, and the slot in it is the counterpart's; an external schedule has no counterpart.
-use Rattle.laws.specs.Base.{◌≡◌, refl, sym, ap, ap₂, ◌∙◌, Bool, true, false, true≢false, Option, none, some, option_get_or, option_map, List, [], ◌∷◌, ℕ, ◌<◌, arith}
+use Rattle.std.specs.Prelude.{◌≡◌, ◌∷◌, ◌<◌}
+use Rattle.laws.specs.Base.{refl, sym, ap, ap₂, ◌∙◌, Bool, true, false, true≢false, Option, none, some, option_get_or, option_map, List, [], ℕ, arith}
 use Rattle.laws.specs.Tests.{◌and◌}
 use Rattle.laws.specs.Tests.Laws.{split, and_left, and_right, and_both, and_no_left, and_no_right, is_yes}
 use Rattle.laws.specs.Lists.{find, has, place, nth, All}

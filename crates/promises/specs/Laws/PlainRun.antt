@@ -1,5 +1,6 @@
 -- The plain run says yes exactly where the book is sound and its marks and nets are true, as the two tests that it makes of each block say that.
-use Rattle.laws.specs.Base.{◌≡◌, ap, Bool, true, false, List, ℕ, true≢false}
+use Rattle.std.specs.Prelude.{◌≡◌}
+use Rattle.laws.specs.Base.{ap, Bool, true, false, List, ℕ, true≢false}
 use Rattle.laws.specs.Tests.{◌and◌, ◌or◌, neg}
 use Rattle.laws.specs.Tests.Laws.{split, and_left, and_right, and_both, or_yes_left, or_yes_right, or_else, neg_true, neg_false}
 use Rattle.laws.specs.Lists.{same, every}

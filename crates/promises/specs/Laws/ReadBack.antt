@@ -1,6 +1,7 @@
 -- What an acceptance writes is read back as the blocks that it was made of: they are whole blocks, each a sender's, a series or a right, there is room for them, and none of
 -- the used slots is given up.
-use Rattle.laws.specs.Base.{◌≡◌, ◌∙◌, true, false, List, ℕ, ◌/◌, ◌≤◌, ◌<◌, arith, length, length-map}
+use Rattle.std.specs.Prelude.{◌≡◌, ◌/◌, ◌≤◌, ◌<◌}
+use Rattle.laws.specs.Base.{◌∙◌, true, false, List, ℕ, arith, length, length-map}
 use Rattle.laws.specs.Tests.{◌or◌}
 use Rattle.laws.specs.Tests.Laws.{split, or_yes_left, or_yes_right}
 use Rattle.laws.specs.Lists.{All}

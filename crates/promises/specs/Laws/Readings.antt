@@ -1,6 +1,7 @@
 -- What is read by sender and id is what the messages give: the series is the one that the sender's latest message has under the id, its mark is the plain rule's,
 -- a net is the signed sum of its quantities, and a final is worked out from what each party last sent.
-use Rattle.laws.specs.Base.{◌≡◌, refl, sym, ap, ◌∙◌, true, false, true≢false, Option, none, some, option_get_or, option_map, List, [], ◌++◌, ℕ, ◌<◌, length}
+use Rattle.std.specs.Prelude.{◌≡◌, ◌++◌, ◌<◌}
+use Rattle.laws.specs.Base.{refl, sym, ap, ◌∙◌, true, false, true≢false, Option, none, some, option_get_or, option_map, List, [], ℕ, length}
 use Rattle.laws.specs.Tests.Laws.{and_left}
 use Rattle.laws.specs.Lists.{find, place, nth, All}
 use Rattle.laws.specs.Lists.Each.{all_keep}

@@ -1,5 +1,6 @@
 -- A call that writes does so only where its number is 0, so a refusal changes nothing.
-use Rattle.laws.specs.Base.{◌≡◌, ℕ}
+use Rattle.std.specs.Prelude.{◌≡◌}
+use Rattle.laws.specs.Base.{ℕ}
 use Rattle.laws.specs.Tests.Laws.{is_equal, is_other}
 use Rattle.paper.specs.Layout.{Bytes}
 use Rattle.paper.specs.Rules.{number_of, verdict}

@@ -1,6 +1,7 @@
 -- A sound book whose used slots are written anew is read back as the blocks written: they are whole, none of them is free, there is room for them, and behind them
 -- all slots stay free. So it is sound where these blocks are.
-use Rattle.laws.specs.Base.{◌≡◌, refl, ap, ◌∙◌, true, false, List, ◌++◌, append_assoc, ℕ, ◌+◌, ◌-◌, ◌*◌, ◌/◌, ◌≤◌, ◌<◌, arith, length, drop, length-append, length-drop, drop_at, drop-drop}
+use Rattle.std.specs.Prelude.{◌≡◌, ◌++◌, ◌+◌, ◌-◌, ◌*◌, ◌/◌, ◌≤◌, ◌<◌}
+use Rattle.laws.specs.Base.{refl, ap, ◌∙◌, true, false, List, append_assoc, ℕ, arith, length, drop, length-append, length-drop, drop_at, drop-drop}
 use Rattle.laws.specs.Tests.{◌or◌}
 use Rattle.laws.specs.Lists.{apart, All}
 use Rattle.laws.specs.Lists.Each.{all_imply, all_append, all_drop, all_until}

@@ -1,5 +1,6 @@
 -- Settled positions of a sound book: at a closed position the sums are given, and over the parties as much is bought as is sold; elsewhere they are refused.
-use Rattle.laws.specs.Base.{◌≡◌, sym, ap, ◌∙◌, true, ℕ, ◌-◌, ◌≤◌, arith}
+use Rattle.std.specs.Prelude.{◌≡◌, ◌-◌, ◌≤◌}
+use Rattle.laws.specs.Base.{sym, ap, ◌∙◌, true, ℕ, arith}
 use Rattle.laws.specs.Lists.{total, All}
 use Rattle.laws.specs.Lists.Each.{all_imply}
 use Rattle.laws.specs.Lists.Count.{total_each, total_differences}

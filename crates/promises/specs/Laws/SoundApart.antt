@@ -1,6 +1,7 @@
 -- Soundness is kept by an acceptance, as to distinctness: a renewed block keeps sender, id and key, by rule 7; the one sender that may be added was not there;
 -- and a new series has an id and a key that no stored series of the sender and no other series of the message has.
-use Rattle.laws.specs.Base.{◌≡◌, refl, sym, ap, ◌∙◌, true, false, cond, List, [], ◌∷◌, map, length}
+use Rattle.std.specs.Prelude.{◌≡◌, ◌∷◌}
+use Rattle.laws.specs.Base.{refl, sym, ap, ◌∙◌, true, false, cond, List, [], map, length}
 use Rattle.laws.specs.Tests.Laws.{split, clash, and_left, and_right, and_both, or_no, or_yes_right, neg_yes, is_yes, is_equal}
 use Rattle.laws.specs.Lists.{has, every, apart, All}
 use Rattle.laws.specs.Lists.Same.{same_yes, same_equal}

@@ -1,5 +1,6 @@
 -- Soundness is kept by an acceptance, as to checks: every block that is written is sealed, every other stays as it was.
-use Rattle.laws.specs.Base.{◌≡◌, ◌∙◌, true, false, List, ℕ, length}
+use Rattle.std.specs.Prelude.{◌≡◌}
+use Rattle.laws.specs.Base.{◌∙◌, true, false, List, ℕ, length}
 use Rattle.laws.specs.Tests.Laws.{split, clash}
 use Rattle.laws.specs.Lists.{All}
 use Rattle.laws.specs.Lists.Each.{all_both, all_map}

@@ -1,6 +1,7 @@
 -- Soundness is kept by a conversion: it writes the nets of each sender and the mark of each series, which are within their ranges, and seals them; all else stays as it
 -- was.
-use Rattle.laws.specs.Base.{◌≡◌, sym, ap, ◌∙◌, true, List, ℕ, ◌≤◌, arith, length}
+use Rattle.std.specs.Prelude.{◌≡◌, ◌≤◌}
+use Rattle.laws.specs.Base.{sym, ap, ◌∙◌, true, List, ℕ, arith, length}
 use Rattle.laws.specs.Tests.Laws.{and_left, and_right, and_both}
 use Rattle.laws.specs.Lists.{All}
 use Rattle.laws.specs.Lists.Each.{all_imply, all_both, all_each, all_map}

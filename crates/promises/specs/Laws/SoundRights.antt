@@ -1,5 +1,6 @@
 -- Soundness is kept as to rights: an acceptance and a conversion leave every right as it is, and add none.
-use Rattle.laws.specs.Base.{◌≡◌, sym, ap, ◌∙◌, Bool, true, false, List, map, ℕ, length}
+use Rattle.std.specs.Prelude.{◌≡◌}
+use Rattle.laws.specs.Base.{sym, ap, ◌∙◌, Bool, true, false, List, map, ℕ, length}
 use Rattle.laws.specs.Tests.Laws.{split, clash, and_left, and_right}
 use Rattle.laws.specs.Lists.{apart, All}
 use Rattle.laws.specs.Lists.Each.{all_imply, all_each, all_map, all_swap}

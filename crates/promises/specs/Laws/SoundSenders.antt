@@ -1,6 +1,7 @@
 -- Soundness is kept by an acceptance, as to every sender: the message's has passed rules 3 to 6 and its nets are within range; every other block stays as it
 -- was; and each count is the number of the sender's series, for the message's count was right and the others' series are what they were.
-use Rattle.laws.specs.Base.{◌≡◌, refl, sym, ap, ◌∙◌, true, false, List, ℕ, ◌≤◌, arith, length}
+use Rattle.std.specs.Prelude.{◌≡◌, ◌≤◌}
+use Rattle.laws.specs.Base.{refl, sym, ap, ◌∙◌, true, false, List, ℕ, arith, length}
 use Rattle.laws.specs.Tests.{◌or◌}
 use Rattle.laws.specs.Tests.Laws.{split, clash, and_left, and_right, and_both, or_no, is_yes, is_equal, upto_true}
 use Rattle.laws.specs.Lists.{same, count, keep, total, All}

@@ -1,6 +1,7 @@
 -- Soundness is kept by an acceptance, as to every series: its fields are those of a stored series or of one that passed rules 7 to 15; its mark, if it is made
 -- anew, has a count and a first of at most n and names a series' slot; and its sender's slot holds its sender, for no sender moves.
-use Rattle.laws.specs.Base.{◌≡◌, refl, sym, ap, ◌∙◌, Bool, true, false, cond, Option, none, some, option_get_or, option_map, List, [], ◌∷◌, ℕ, zero, suc, ◌+◌, ◌≤◌, ◌<◌, arith, length, take_all}
+use Rattle.std.specs.Prelude.{◌≡◌, ◌∷◌, ◌+◌, ◌≤◌, ◌<◌}
+use Rattle.laws.specs.Base.{refl, sym, ap, ◌∙◌, Bool, true, false, cond, Option, none, some, option_get_or, option_map, List, [], ℕ, zero, suc, arith, length, take_all}
 use Rattle.laws.specs.Tests.{◌or◌, neg, is, upto}
 use Rattle.laws.specs.Tests.Laws.{split, clash, and_left, and_right, and_both, or_yes_left, or_yes_right, or_else, is_equal, upto_true, below_each, below_agree}
 use Rattle.laws.specs.Lists.{same, find, place, keep, All}

@@ -1,5 +1,6 @@
 -- No block moves: after an acceptance a slot that was used holds the block that it held, renewed and marked, and the sender stands in its slot.
-use Rattle.laws.specs.Base.{◌≡◌, ap, ◌∙◌, true, map, ℕ, zero, ◌/◌, ◌≤◌, ◌<◌, arith, length, length-append, length-map}
+use Rattle.std.specs.Prelude.{◌≡◌, ◌/◌, ◌≤◌, ◌<◌}
+use Rattle.laws.specs.Base.{ap, ◌∙◌, true, map, ℕ, zero, arith, length, length-append, length-map}
 use Rattle.laws.specs.Tests.Laws.{split}
 use Rattle.laws.specs.Lists.{has}
 use Rattle.paper.specs.Layout.{Bytes, n_of, sender}

@@ -1,6 +1,7 @@
 -- Soundness is kept: an accepted opening gives a sound book, an accepted clock move writes the clock alone, and an acceptance keeps each clause of soundness
 -- for its own reason.
-use Rattle.laws.specs.Base.{◌≡◌, refl, ap, ◌∙◌, true, List, [], ℕ, zero, suc, ◌-◌, ◌/◌, ◌≤◌, arith, length, drop, replicate, length-append, length-drop, length-replicate}
+use Rattle.std.specs.Prelude.{◌≡◌, ◌-◌, ◌/◌, ◌≤◌}
+use Rattle.laws.specs.Base.{refl, ap, ◌∙◌, true, List, [], ℕ, zero, suc, arith, length, drop, replicate, length-append, length-drop, length-replicate}
 use Rattle.laws.specs.Tests.{is}
 use Rattle.laws.specs.Tests.Laws.{and_left, and_right, and_both, is_same, upto_true}
 use Rattle.laws.specs.Lists.{every, apart, until, All}

@@ -1,6 +1,7 @@
 -- After an acceptance the sender holds the message's trades, and its contents under every key, and everyone else what they held: a stored series of the sender is replaced
 -- by the message's, a new one is added, and none is absent from the message.
-use Rattle.laws.specs.Base.{◌≡◌, Bool, cond, some, ℕ, arith}
+use Rattle.std.specs.Prelude.{◌≡◌}
+use Rattle.laws.specs.Base.{Bool, cond, some, ℕ, arith}
 use Rattle.laws.specs.Lists.{same}
 use Rattle.paper.specs.Layout.{Bytes, Block, n_of, area, sender, quantities, with_senders_slot}
 use Rattle.paper.specs.Book.{day_block, used, key_is, trade_is}

@@ -1,6 +1,7 @@
 -- Sums over a sender's series after an acceptance: over the message's sender they are the sums over the message, for its series are the stored ones replaced
 -- and the new ones, each once, by rules 7 and 16; over any other sender they are what they were.
-use Rattle.laws.specs.Base.{◌≡◌, sym, ap, ap₂, ◌∙◌, Bool, true, false, cond, List, [], ◌∷◌, ◌++◌, map, ℕ, ◌+◌, add-zero, length}
+use Rattle.std.specs.Prelude.{◌≡◌, ◌∷◌, ◌++◌, ◌+◌}
+use Rattle.laws.specs.Base.{sym, ap, ap₂, ◌∙◌, Bool, true, false, cond, List, [], map, ℕ, add-zero, length}
 use Rattle.laws.specs.Tests.{is}
 use Rattle.laws.specs.Tests.Laws.{split, is_no}
 use Rattle.laws.specs.Lists.{find, has, apart, keep, total, All, of_found}
