@@ -1,5 +1,6 @@
 -- The answers of the clock's call, and the book as it leaves it.
-use Rattle.laws.specs.Kit.{◌≡◌, true, false, ◌++◌, ℕ, ◌≤◌, arith, length, take, drop, is, is_equal, is_other}
+use Rattle.std.specs.Prelude.{◌≡◌, ◌++◌, ◌≤◌}
+use Rattle.laws.specs.Kit.{true, false, ℕ, arith, length, take, drop, is, is_equal, is_other}
 use Rattle.laws.specs.Bytes.{part}
 use Rattle.paper.specs.declared.ClockAnswer.{ClockAnswer}
 use Rattle.paper.specs.declared.DayState.{DayState}

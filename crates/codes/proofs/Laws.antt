@@ -1,5 +1,6 @@
 -- A number above every row's has no code.
-use Rattle.laws.specs.Kit.{◌≡◌, refl, sym, true, List, [], ◌∷◌, ℕ, ◌<◌, arith, ◌and◌, less, is_other, less_yes, and_left, and_right}
+use Rattle.std.specs.Prelude.{◌≡◌, ◌∷◌, ◌<◌}
+use Rattle.laws.specs.Kit.{refl, sym, true, List, [], ℕ, arith, ◌and◌, less, is_other, less_yes, and_left, and_right}
 use Rattle.laws.specs.Lists.{every}
 use Rattle.paper.specs.Codes.{Row, table, code_in, reason_code}
 

@@ -1,5 +1,6 @@
 -- Laws of the check on site: rows that are passed.
-use Rattle.laws.specs.Base.{◌≡◌, refl, ap, Bool, List, ℕ, zero, suc, ◌+◌, ◌-◌, ◌≤◌, ◌<◌, add-one, sub-zero, arith, length}
+use Rattle.std.specs.Prelude.{◌≡◌, ◌+◌, ◌-◌, ◌≤◌, ◌<◌}
+use Rattle.laws.specs.Base.{refl, ap, Bool, List, ℕ, zero, suc, add-one, sub-zero, arith, length}
 use Rattle.laws.specs.Kit.{◌and◌, is_equal, is_other}
 use Rattle.desk_text.specs.Words.{past_piece, past_pieces, piece_numbered}
 use Rattle.cases_site.specs.Site.{row_right, row_book, rows_from}

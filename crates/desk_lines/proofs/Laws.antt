@@ -1,5 +1,6 @@
 -- Laws of the parts of a line.
-use Rattle.laws.specs.Kit.{◌≡◌, refl, List, [], ◌∷◌, ◌++◌, append-nil, ℕ, ◌+◌, ◌≤◌, add-one, arith, length, take_at, less, is, is_yes, is_equal, is_other, split, less_no, less_false}
+use Rattle.std.specs.Prelude.{◌≡◌, ◌∷◌, ◌++◌, ◌+◌, ◌≤◌}
+use Rattle.laws.specs.Kit.{refl, List, [], append-nil, ℕ, add-one, arith, length, take_at, less, is, is_yes, is_equal, is_other, split, less_no, less_false}
 use mathlib.Core.Bool.{cond}
 use Rattle.laws.specs.Bytes.{part}
 use Rattle.laws.specs.Lists.{until}

@@ -1,5 +1,6 @@
 -- Laws of digits written and read.
-use Rattle.laws.specs.Kit.{◌≡◌, refl, true, false, List, [], ◌∷◌, ℕ, zero, suc, ◌/◌, ◌≤◌, arith, length, get_or, take, length-append, ◌and◌, is, upto, and_both, upto_true, is_other}
+use Rattle.std.specs.Prelude.{◌≡◌, ◌∷◌, ◌/◌, ◌≤◌}
+use Rattle.laws.specs.Kit.{refl, true, false, List, [], ℕ, zero, suc, arith, length, get_or, take, length-append, ◌and◌, is, upto, and_both, upto_true, is_other}
 use Rattle.laws.specs.Lists.{every}
 use Rattle.laws.specs.Bytes.{part, written}
 use Rattle.laws.specs.Bytes.Laws.{part_written_same}

@@ -1,5 +1,6 @@
 -- Laws of the loops: a text put byte by byte, its pieces passed by, the command that a word names.
-use Rattle.laws.specs.Kit.{◌≡◌, sym, ap, ◌∙◌, true, false, cond, List, ℕ, zero, suc, ◌+◌, ◌-◌, ◌≤◌, ◌<◌, add-one, arith, length, drop, get_or, set, drop_of_length-le, drop-cons, drop-drop, is}
+use Rattle.std.specs.Prelude.{◌≡◌, ◌+◌, ◌-◌, ◌≤◌, ◌<◌}
+use Rattle.laws.specs.Kit.{sym, ap, ◌∙◌, true, false, cond, List, ℕ, zero, suc, add-one, arith, length, drop, get_or, set, drop_of_length-le, drop-cons, drop-drop, is}
 use Rattle.laws.specs.Lists.{same}
 use Rattle.laws.specs.Bytes.{written}
 use Rattle.laws.specs.Bytes.Laws.{written_none, written_cons}

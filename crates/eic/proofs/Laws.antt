@@ -1,5 +1,6 @@
 -- Laws of the check, as the code asks for them.
-use Rattle.laws.specs.Kit.{◌≡◌, refl, sym, ap, ◌∙◌, Bool, true, false, List, ℕ, ◌+◌, ◌-◌, ◌*◌, ◌≤◌, ◌<◌, arith, length, take, get_or, split, zero, suc, ◌%◌, [], ◌∷◌, map, mul-le-mul, add_assoc, add-zero, zero-add, add-one, set, length-map, take_all, take-suc, ◌and◌, neg, is, and_left, and_right, and_no_right, is_yes, is_no, is_equal, is_other, upto_yes}
+use Rattle.std.specs.Prelude.{◌≡◌, ◌+◌, ◌-◌, ◌*◌, ◌≤◌, ◌<◌, ◌%◌, ◌∷◌}
+use Rattle.laws.specs.Kit.{refl, sym, ap, ◌∙◌, Bool, true, false, List, ℕ, arith, length, take, get_or, split, zero, suc, [], map, mul-le-mul, add_assoc, add-zero, zero-add, add-one, set, length-map, take_all, take-suc, ◌and◌, neg, is, and_left, and_right, and_no_right, is_yes, is_no, is_equal, is_other, upto_yes}
 use native.Mathlib.Nat.{one-mul}
 use lib.Seq.{take-suc-set}
 use Rattle.laws.specs.Tests.Laws.{neg_yes}

@@ -1,5 +1,6 @@
 -- A sound book is full where its used slots reach its end; the numbers of an entering in their order, and the book as it leaves it, from what the code finds.
-use Rattle.laws.specs.Kit.{◌≡◌, sym, ap, ◌∙◌, Bool, true, false, cond, List, ℕ, ◌+◌, ◌-◌, ◌*◌, ◌/◌, ◌%◌, ◌≤◌, arith, length, ◌or◌, neg, is, split, is_yes, is_no, is_equal, is_other, neg_true}
+use Rattle.std.specs.Prelude.{◌≡◌, ◌+◌, ◌-◌, ◌*◌, ◌/◌, ◌%◌, ◌≤◌}
+use Rattle.laws.specs.Kit.{sym, ap, ◌∙◌, Bool, true, false, cond, List, ℕ, arith, length, ◌or◌, neg, is, split, is_yes, is_no, is_equal, is_other, neg_true}
 use Rattle.laws.specs.Lists.{place, has}
 use Rattle.laws.specs.Lists.Search.{place_is_not_0}
 use Rattle.laws.specs.Lists.Keep.{until_length, count_until}

@@ -1,6 +1,7 @@
 -- The contract of each call allows one outcome. A `Post` is the contract itself: a claim on the lent buffers' lives, the arguments, the answer, and the arguments as
 -- they stand at the end. Nothing here is assumed of the code.
-use Rattle.laws.specs.Kit.{◌≡◌, sym, ◌∙◌, List, ℕ, now}
+use Rattle.std.specs.Prelude.{◌≡◌}
+use Rattle.laws.specs.Kit.{sym, ◌∙◌, List, ℕ}
 use Rattle.export.proofs.tetherbay_check.Reads as check
 use Rattle.export.proofs.tetherbay_checks_right.Reads as checks_right
 use Rattle.export.proofs.tetherbay_seal.Reads as seal
@@ -37,31 +38,31 @@ OneOutcome {K} {A} {R} {S} P altered = (k : K) (a : A) (answer other : R) (s t :
 
 -- ---- calls that alter a buffer
 
-pub seal_determined : OneOutcome seal.Post (λ s. now s.0)
+pub seal_determined : OneOutcome seal.Post (λ s. s.0.now)
 seal_determined k a answer other s t p q = (p.0 ∙ sym q.0, p.1 ∙ sym q.1)
 
-pub quantity_print_determined : OneOutcome quantity_print.Post (λ s. now s.1.0)
+pub quantity_print_determined : OneOutcome quantity_print.Post (λ s. s.1.0.now)
 quantity_print_determined k a answer other s t p q = (p.0 ∙ sym q.0, p.1 ∙ sym q.1)
 
-pub open_determined : OneOutcome opening.Post (λ s. now s.0)
+pub open_determined : OneOutcome opening.Post (λ s. s.0.now)
 open_determined k a answer other s t p q = (p.0.0 ∙ sym q.0.0, p.0.1 ∙ sym q.0.1)
 
-pub open_by_determined : OneOutcome opening_by.Post (λ s. now s.0)
+pub open_by_determined : OneOutcome opening_by.Post (λ s. s.0.now)
 open_by_determined k a answer other s t p q = (p.0.0 ∙ sym q.0.0, p.0.1 ∙ sym q.0.1)
 
-pub convert_determined : OneOutcome convert.Post (λ s. now s.0)
+pub convert_determined : OneOutcome convert.Post (λ s. s.0.now)
 convert_determined k a answer other s t p q = (p.0.0 ∙ sym q.0.0, p.0.1 ∙ sym q.0.1)
 
-pub clock_determined : OneOutcome clock.Post (λ s. now s.0)
+pub clock_determined : OneOutcome clock.Post (λ s. s.0.now)
 clock_determined k a answer other s t p q = (p.0.0 ∙ sym q.0.0, p.0.1 ∙ sym q.0.1)
 
-pub enter_right_determined : OneOutcome enter_right.Post (λ s. now s.0)
+pub enter_right_determined : OneOutcome enter_right.Post (λ s. s.0.now)
 enter_right_determined k a answer other s t p q = (p.0.0 ∙ sym q.0.0, p.0.1 ∙ sym q.0.1)
 
-pub submit_determined : OneOutcome submit.Post (λ s. now s.0)
+pub submit_determined : OneOutcome submit.Post (λ s. s.0.now)
 submit_determined k a answer other s t p q = (p.0.0 ∙ sym q.0.0, p.0.1 ∙ sym q.0.1)
 
-pub listing_determined : OneOutcome listing.Post (λ s. now s.1.0)
+pub listing_determined : OneOutcome listing.Post (λ s. s.1.0.now)
 listing_determined k a answer other s t p q = (p.0 ∙ sym q.0, p.1 ∙ sym q.1)
 
 -- ---- calls that alter nothing

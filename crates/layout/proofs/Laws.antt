@@ -1,5 +1,6 @@
 -- Fields written byte by byte and number by number: what is left to write, over what is written, gives the whole.
-use Rattle.laws.specs.Kit.{◌≡◌, refl, sym, ap, ◌∙◌, List, ℕ, zero, suc, ◌+◌, ◌-◌, ◌*◌, ◌/◌, ◌%◌, ◌≤◌, ◌<◌, add-zero, add-one, arith, length, drop, get_or, set, length-append, get_or-drop, drop-drop}
+use Rattle.std.specs.Prelude.{◌≡◌, ◌+◌, ◌-◌, ◌*◌, ◌/◌, ◌%◌, ◌≤◌, ◌<◌}
+use Rattle.laws.specs.Kit.{refl, sym, ap, ◌∙◌, List, ℕ, zero, suc, add-zero, add-one, arith, length, drop, get_or, set, length-append, get_or-drop, drop-drop}
 use Rattle.laws.specs.Bytes.{written, little, number}
 use Rattle.laws.specs.Bytes.Laws.{number_1, written_none, written_cons, written_append, little_length}
 use Rattle.paper.specs.Layout.{Bytes, Block}

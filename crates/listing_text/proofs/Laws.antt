@@ -1,7 +1,8 @@
 -- A text put piece by piece.
 pub mod Line
 pub mod Whole
-use Rattle.laws.specs.Kit.{◌≡◌, refl, sym, ap, ◌∙◌, [], ◌∷◌, ◌++◌, ℕ, ◌+◌, add-zero, add_assoc, length, drop, set, length-append, Step, End}
+use Rattle.std.specs.Prelude.{◌≡◌, ◌∷◌, ◌++◌, ◌+◌}
+use Rattle.laws.specs.Kit.{refl, sym, ap, ◌∙◌, [], ℕ, add-zero, add_assoc, length, drop, set, length-append, Step, End}
 use Rattle.laws.specs.Bytes.{written}
 use Rattle.laws.specs.Bytes.Laws.{written_none, written_cons, written_append}
 use Rattle.paper.specs.Layout.{Bytes}

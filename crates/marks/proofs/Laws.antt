@@ -1,5 +1,6 @@
 -- A counterpart is linked in the bucket of its pair, and an external schedule has none; count and first position by position, and the mark from the numbers that the code finds.
-use Rattle.laws.specs.Kit.{◌≡◌, refl, sym, ap, ◌∙◌, true, false, cond, List, [], ◌∷◌, ℕ, ◌+◌, ◌≤◌, ◌<◌, arith, is, split, clash, is_equal, and_both}
+use Rattle.std.specs.Prelude.{◌≡◌, ◌∷◌, ◌+◌, ◌≤◌, ◌<◌}
+use Rattle.laws.specs.Kit.{refl, sym, ap, ◌∙◌, true, false, cond, List, [], ℕ, arith, is, split, clash, is_equal, and_both}
 use Rattle.laws.specs.Lists.{same}
 use Rattle.laws.specs.Lists.Same.{same_yes}
 use Rattle.laws.specs.Lists.Each.{all_each}

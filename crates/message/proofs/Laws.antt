@@ -1,5 +1,6 @@
 -- Rule 2 as the code finds it: by the length first, then the checks, then the blocks.
-use Rattle.laws.specs.Kit.{◌≡◌, Bool, true, false, ◌&&◌, ◌/◌, length, ◌and◌}
+use Rattle.std.specs.Prelude.{◌≡◌, ◌&&◌, ◌/◌}
+use Rattle.laws.specs.Kit.{Bool, true, false, length, ◌and◌}
 use Rattle.laws.specs.Lists.{every}
 use Rattle.laws.specs.Cut.{cut}
 use Rattle.laws.specs.Cut.Laws.{cut_length}

@@ -1,5 +1,6 @@
 -- What a sound book says of its length and of n, and the answer from what is found.
-use Rattle.laws.specs.Kit.{◌≡◌, ap, ◌∙◌, Bool, true, false, ◌&&◌, ℕ, ◌/◌, ◌≤◌, arith, length, ◌and◌}
+use Rattle.std.specs.Prelude.{◌≡◌, ◌&&◌, ◌/◌, ◌≤◌}
+use Rattle.laws.specs.Kit.{ap, ◌∙◌, Bool, true, false, ℕ, arith, length, ◌and◌}
 use Rattle.laws.specs.Lists.{every}
 use Rattle.laws.specs.Bytes.{part}
 use Rattle.laws.specs.Cut.{cut}

@@ -1,5 +1,6 @@
 -- Counts as the code makes them.
-use Rattle.laws.specs.Kit.{◌≡◌, refl, Bool, true, false, cond, not, List, [], ◌∷◌, ℕ, ◌+◌, ◌<◌, length, take, get_or, step_byte, step_take}
+use Rattle.std.specs.Prelude.{◌≡◌, ◌∷◌, ◌+◌, ◌<◌}
+use Rattle.laws.specs.Kit.{refl, Bool, true, false, cond, not, List, [], ℕ, length, take, get_or, step_byte, step_take}
 use Rattle.laws.specs.Lists.{count}
 use Rattle.laws.specs.Lists.Count.{count_append}
 

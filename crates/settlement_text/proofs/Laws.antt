@@ -1,5 +1,6 @@
 -- The parties that each block is the first to name, a sheet line by line, and the whole text.
-use Rattle.laws.specs.Kit.{◌≡◌, refl, sym, ap, ap₂, ◌∙◌, Bool, true, false, cond, List, [], ◌∷◌, ◌++◌, append_assoc, append-nil, ℕ, ◌+◌, ◌-◌, ◌/◌, ◌≤◌, ◌<◌, add-one, arith, length, take, take_all, get_or, ◌and◌, ◌or◌, is, split}
+use Rattle.std.specs.Prelude.{◌≡◌, ◌∷◌, ◌++◌, ◌+◌, ◌-◌, ◌/◌, ◌≤◌, ◌<◌}
+use Rattle.laws.specs.Kit.{refl, sym, ap, ap₂, ◌∙◌, Bool, true, false, cond, List, [], append_assoc, append-nil, ℕ, add-one, arith, length, take, take_all, get_or, ◌and◌, ◌or◌, split}
 use Rattle.laws.specs.Tests.Laws.{or_false}
 use Rattle.laws.specs.Base.{take-suc}
 use Rattle.laws.specs.Lists.{same, has, total, once}

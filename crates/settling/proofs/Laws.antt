@@ -1,5 +1,6 @@
 -- The final of a pair from a trade and its counterpart, the row of values slot by slot, and a party's sums along the row.
-use Rattle.laws.specs.Kit.{◌≡◌, refl, sym, ap, ap₂, ◌∙◌, Bool, true, false, not, ◌&&◌, cond, some, List, [], ◌++◌, map, ℕ, zero, suc, ◌+◌, ◌-◌, ◌/◌, ◌≤◌, ◌<◌, add-one, arith, length, take, drop, get_or, set, get_or-set_same, get_or-set_other, take_all, ◌and◌, ◌or◌, neg, is, less, split, or_else, and_right, is_no, is_other, is_equal, less_yes, less_no, less_true, less_false}
+use Rattle.std.specs.Prelude.{◌≡◌, ◌&&◌, ◌++◌, ◌+◌, ◌-◌, ◌/◌, ◌≤◌, ◌<◌}
+use Rattle.laws.specs.Kit.{refl, sym, ap, ap₂, ◌∙◌, Bool, true, false, not, cond, some, List, [], map, ℕ, zero, suc, add-one, arith, length, take, drop, get_or, set, get_or-set_same, get_or-set_other, take_all, ◌and◌, ◌or◌, neg, is, less, split, or_else, and_right, is_no, is_other, is_equal, less_yes, less_no, less_true, less_false}
 use lib.Dec.{eqb, leb}
 use Rattle.laws.specs.Tests.{upto}
 use Rattle.laws.specs.Tests.Laws.{or_left, or_right}

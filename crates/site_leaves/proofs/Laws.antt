@@ -1,6 +1,7 @@
 -- Laws of the check on site: verdicts that are joined, and the last line.
+use Rattle.std.specs.Prelude.{◌≡◌}
 use mir.Val.{bool_byte}
-use Rattle.laws.specs.Base.{◌≡◌, refl, Bool, true, false, cond}
+use Rattle.laws.specs.Base.{refl, Bool, true, false, cond}
 use Rattle.laws.specs.Tests.{◌and◌, is}
 use Rattle.laws.specs.Lists.{until}
 use Rattle.paper.specs.Listing.{text}

@@ -1,6 +1,7 @@
 -- Blocks by number, a free block, two series compared, the used slots as a part of a book's bytes, and the area within the day block, as the code finds them.
 pub mod Lent
-use Rattle.laws.specs.Kit.{◌≡◌, refl, sym, ap, ◌∙◌, Bool, true, false, not, List, [], ◌∷◌, ℕ, zero, suc, ◌+◌, ◌-◌, ◌*◌, ◌/◌, ◌≤◌, ◌<◌, add-sub_cancel_left, arith, length, take, drop, get_or, get_or-eq_default, drop_of_length-le, drop-drop, take-take, ◌and◌, is, split, told, denied, is_yes}
+use Rattle.std.specs.Prelude.{◌≡◌, ◌∷◌, ◌+◌, ◌-◌, ◌*◌, ◌/◌, ◌≤◌, ◌<◌}
+use Rattle.laws.specs.Kit.{refl, sym, ap, ◌∙◌, Bool, true, false, not, List, [], ℕ, zero, suc, add-sub_cancel_left, arith, length, take, drop, get_or, get_or-eq_default, drop_of_length-le, drop-drop, take-take, ◌and◌, is, split, told, denied, is_yes}
 use Rattle.laws.specs.Lists.{same, every, until}
 use Rattle.laws.specs.Lists.Keep.{until_take, until_length}
 use Rattle.laws.specs.Lists.Each.{drop_take}

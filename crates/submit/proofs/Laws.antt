@@ -1,5 +1,6 @@
 -- The book after a submission, by the number of its verdict v.
-use Rattle.laws.specs.Kit.{◌≡◌, sym, ap, ◌∙◌, is_equal, is_other}
+use Rattle.std.specs.Prelude.{◌≡◌}
+use Rattle.laws.specs.Kit.{sym, ap, ◌∙◌, is_equal, is_other}
 use Rattle.paper.specs.declared.Verdict.{Verdict}
 use Rattle.paper.specs.Layout.{Bytes}
 use Rattle.paper.specs.Rules.{number_of, verdict}

@@ -1,5 +1,6 @@
 -- The new blocks: the sender's, where it has no slot yet, then the series that have no place among the sender's stored ones.
-use Rattle.laws.specs.Kit.{◌≡◌, refl, sym, ap, ap₂, ◌∙◌, Bool, List, [], ◌∷◌, ◌++◌, map, ℕ, zero, suc, ◌+◌, ◌≤◌, ◌<◌, add-one, arith, length, take, get_or, length-append, take-suc, take_all, neg, is, split, is_yes, is_no, is_equal, is_other}
+use Rattle.std.specs.Prelude.{◌≡◌, ◌∷◌, ◌++◌, ◌+◌, ◌≤◌, ◌<◌}
+use Rattle.laws.specs.Kit.{refl, sym, ap, ap₂, ◌∙◌, Bool, List, [], map, ℕ, zero, suc, add-one, arith, length, take, get_or, length-append, take-suc, take_all, neg, is, split, is_yes, is_no, is_equal, is_other}
 use Rattle.laws.specs.Lists.{place, keep}
 use Rattle.laws.specs.Lists.Each.{map_append}
 use Rattle.laws.specs.Lists.Search.{has_keep_and, place_is_0}

@@ -1,5 +1,6 @@
 -- The new blocks one after another.
-use Rattle.laws.specs.Kit.{◌≡◌, List, [], ◌++◌, ℕ, ◌+◌, ◌≤◌, ◌<◌, arith, length, get_or, length-append}
+use Rattle.std.specs.Prelude.{◌≡◌, ◌++◌, ◌+◌, ◌≤◌, ◌<◌}
+use Rattle.laws.specs.Kit.{List, [], ℕ, arith, length, get_or, length-append}
 use Rattle.paper.specs.Layout.{Block}
 use Rattle.accept.specs.Steps.{Laid, added_at, added_to}
 use Rattle.accept.proofs.Laws.Laying.{laid_then}

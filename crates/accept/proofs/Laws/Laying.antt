@@ -1,5 +1,6 @@
 -- Blocks laid one after another: what is laid in two turns is laid in one, and the blocks before are as they were.
-use Rattle.laws.specs.Kit.{◌≡◌, refl, sym, ap, ap₂, ◌∙◌, List, [], ◌∷◌, ◌++◌, append_assoc, append-nil, ℕ, ◌+◌, ◌≤◌, ◌<◌, arith, length, take, set, length-append, length-take-le}
+use Rattle.std.specs.Prelude.{◌≡◌, ◌∷◌, ◌++◌, ◌+◌, ◌≤◌, ◌<◌}
+use Rattle.laws.specs.Kit.{refl, sym, ap, ap₂, ◌∙◌, List, [], append_assoc, append-nil, ℕ, arith, length, take, set, length-append, length-take-le}
 use Rattle.laws.specs.InPlace.{over, over_none, over_more, over_take, over_over}
 use Rattle.paper.specs.Layout.{Block}
 use Rattle.accept.specs.Steps.{Laid}

@@ -1,5 +1,6 @@
 -- A book's slots, of which the phases borrow the first ones: what comes back is what the definition says of all slots.
-use Rattle.laws.specs.Kit.{◌≡◌, ap, ◌∙◌, cond, List, ◌++◌, map, ℕ, ◌+◌, ◌*◌, ◌/◌, ◌≤◌, arith, length, take, drop, length-append, length-drop, length-take-le, is}
+use Rattle.std.specs.Prelude.{◌≡◌, ◌++◌, ◌+◌, ◌*◌, ◌/◌, ◌≤◌}
+use Rattle.laws.specs.Kit.{ap, ◌∙◌, cond, List, map, ℕ, arith, length, take, drop, length-append, length-drop, length-take-le, is}
 use Rattle.laws.specs.Lists.{until}
 use Rattle.laws.specs.Lists.Keep.{until_length, until_take}
 use Rattle.laws.specs.Cut.{cut}

@@ -1,6 +1,7 @@
 -- The phases put together, over lists of blocks, are what the definition says that an acceptance writes: the used slots and the new blocks behind
 -- them, the first of these renewed, then all of them marked anew.
-use Rattle.laws.specs.Kit.{◌≡◌, sym, ap, ap₂, ◌∙◌, cond, List, [], ◌∷◌, ◌++◌, map, append_assoc, ℕ, ◌+◌, ◌≤◌, arith, length, take, drop, length-append, length-map, take_at, drop_at, is, split, is_equal, is_other}
+use Rattle.std.specs.Prelude.{◌≡◌, ◌∷◌, ◌++◌, ◌+◌, ◌≤◌}
+use Rattle.laws.specs.Kit.{sym, ap, ap₂, ◌∙◌, cond, List, [], map, append_assoc, ℕ, arith, length, take, drop, length-append, length-map, take_at, drop_at, is, split, is_equal, is_other}
 use Rattle.laws.specs.Lists.{has, keep}
 use Rattle.laws.specs.Lists.Search.{has_no_place, place_positive}
 use Rattle.laws.specs.InPlace.{over}

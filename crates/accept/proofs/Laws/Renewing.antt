@@ -1,5 +1,6 @@
 -- One block as an acceptance leaves it, by its number in the message and the answers of the tests that the code makes.
-use Rattle.laws.specs.Kit.{◌≡◌, sym, ap, ap₂, ◌∙◌, Bool, true, false, cond, List, [], ℕ, ◌-◌, ◌<◌, length, get_or, ◌and◌}
+use Rattle.std.specs.Prelude.{◌≡◌, ◌-◌, ◌<◌}
+use Rattle.laws.specs.Kit.{sym, ap, ap₂, ◌∙◌, Bool, true, false, cond, List, [], ℕ, length, get_or, ◌and◌}
 use Rattle.laws.specs.Lists.{find, place, All}
 use Rattle.laws.specs.Lists.Each.{all_imply}
 use Rattle.laws.specs.Lists.Search.{has_no_find, place_agree, place_none, place_find}

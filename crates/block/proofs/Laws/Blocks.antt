@@ -1,5 +1,6 @@
 -- Turns of the loops over blocks: the test so far and the blocks that are left still give the test of all.
-use Rattle.laws.specs.Kit.{◌≡◌, refl, sym, ap, ◌∙◌, Bool, List, ◌∷◌, ℕ, ◌+◌, ◌-◌, ◌*◌, ◌≤◌, ◌<◌, mul-zero, mul-one, add-sub_cancel_left, arith, length, take, drop, length-drop, drop-drop, ◌and◌, and_true, and_assoc}
+use Rattle.std.specs.Prelude.{◌≡◌, ◌∷◌, ◌+◌, ◌-◌, ◌*◌, ◌≤◌, ◌<◌}
+use Rattle.laws.specs.Kit.{refl, sym, ap, ◌∙◌, Bool, List, ℕ, mul-zero, mul-one, add-sub_cancel_left, arith, length, take, drop, length-drop, drop-drop, ◌and◌, and_true, and_assoc}
 use Rattle.laws.specs.Lists.{every}
 use Rattle.laws.specs.Bytes.{part}
 use Rattle.laws.specs.Bytes.Laws.{part_take}

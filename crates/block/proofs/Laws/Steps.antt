@@ -1,5 +1,6 @@
 -- The step of the check by sums and a difference that wrap: 31 times a number goes through sums modulo 4,294,967,296.
-use Rattle.laws.specs.Kit.{◌≡◌, sym, ap, ◌∙◌, ℕ, ◌+◌, ◌-◌, ◌*◌, ◌/◌, ◌%◌, ◌<◌, add-zero, mod-add-mod, add-mod-mod, add-mul, add-mul-mod_self_left, arith}
+use Rattle.std.specs.Prelude.{◌≡◌, ◌+◌, ◌-◌, ◌*◌, ◌/◌, ◌%◌, ◌<◌}
+use Rattle.laws.specs.Kit.{sym, ap, ◌∙◌, ℕ, add-zero, mod-add-mod, add-mod-mod, add-mul, add-mul-mod_self_left, arith}
 use Rattle.paper.specs.Check.{check_step}
 
 -- twice k times x, by a sum that wraps

@@ -1,5 +1,6 @@
 -- Turns of the loops over bytes: the check so far and the bytes that are left still give the whole check.
-use Rattle.laws.specs.Kit.{◌≡◌, sym, ◌∙◌, List, ℕ, suc, ◌+◌, ◌≤◌, arith, length, take, drop, get_or, drop-cons, take-take, is}
+use Rattle.std.specs.Prelude.{◌≡◌, ◌+◌, ◌≤◌}
+use Rattle.laws.specs.Kit.{sym, ◌∙◌, List, ℕ, suc, arith, length, take, drop, get_or, drop-cons, take-take, is}
 use Rattle.laws.specs.Bytes.{part, number}
 use Rattle.laws.specs.Bytes.Laws.{part_none, part_add, number_part}
 use Rattle.paper.specs.Check.{check_step, check_from, check_of, check_right}

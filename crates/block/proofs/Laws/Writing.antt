@@ -1,5 +1,6 @@
 -- Turns of a loop that writes a row of bytes over another: what is left to write, over what is written, gives the whole.
-use Rattle.laws.specs.Kit.{◌≡◌, sym, ◌∙◌, ⊎_elim, List, ℕ, ◌+◌, ◌≤◌, min, arith, length, drop, set, drop_of_length-le, lt_or, Step}
+use Rattle.std.specs.Prelude.{◌≡◌, ◌+◌, ◌≤◌}
+use Rattle.laws.specs.Kit.{sym, ◌∙◌, ⊎_elim, List, ℕ, min, arith, length, drop, set, drop_of_length-le, lt_or, Step}
 use Rattle.laws.specs.Bytes.{written}
 use Rattle.laws.specs.Bytes.Laws.{written_none, written_cons}
 use Rattle.laws.specs.Slices.{written_past}

@@ -1,6 +1,7 @@
 -- A block that is converted shows what it showed: so a list of which some blocks are converted gives the same marks and nets, and its links are the
 -- same. What a block shows is the block converted over no others.
-use Rattle.laws.specs.Kit.{◌≡◌, sym, ap, ap₂, ◌∙◌, Bool, true, false, List, [], map, ℕ, get_or, set, set-get_or, ◌and◌, is, split}
+use Rattle.std.specs.Prelude.{◌≡◌}
+use Rattle.laws.specs.Kit.{sym, ap, ap₂, ◌∙◌, Bool, true, false, List, [], map, ℕ, get_or, set, set-get_or, ◌and◌, is, split}
 use Rattle.laws.specs.InPlace.{done, done_seen}
 use Rattle.paper.specs.Layout.{Bytes, Block, sender, with_mark, with_nets}
 use Rattle.paper.specs.Book.{is_sender, is_series, own_series}

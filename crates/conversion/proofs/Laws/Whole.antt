@@ -1,5 +1,6 @@
 -- The used slots of a book, lent and back converted: the day block and what stands behind them stay.
-use Rattle.laws.specs.Kit.{◌≡◌, refl, sym, ap, ap₂, ◌∙◌, true, false, ◌++◌, append_assoc, ℕ, ◌+◌, ◌-◌, ◌*◌, ◌/◌, ◌≤◌, arith, length, take, drop, length-take, length-drop, drop-drop, length-take-le, add-sub_cancel_left}
+use Rattle.std.specs.Prelude.{◌≡◌, ◌++◌, ◌+◌, ◌-◌, ◌*◌, ◌/◌, ◌≤◌}
+use Rattle.laws.specs.Kit.{refl, sym, ap, ap₂, ◌∙◌, true, false, append_assoc, ℕ, arith, length, take, drop, length-take, length-drop, drop-drop, length-take-le, add-sub_cancel_left}
 use Rattle.laws.specs.Lists.{until}
 use Rattle.laws.specs.Bytes.{number, value}
 use Rattle.laws.specs.Bytes.Laws.{part_take}

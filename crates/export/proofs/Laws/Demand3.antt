@@ -1,6 +1,7 @@
 -- Each call gives what its definition gives, and of the definitions demand 3 is proved call by call: an equation for the book after the call, or for the answer,
 -- carries it over.
-use Rattle.laws.specs.Base.{◌≡◌, refl, sym, ap, ◌∙◌, cond, List, [], ◌∷◌, ◌++◌, ℕ}
+use Rattle.std.specs.Prelude.{◌≡◌, ◌∷◌, ◌++◌}
+use Rattle.laws.specs.Base.{refl, sym, ap, ◌∙◌, cond, List, [], ℕ}
 use Rattle.laws.specs.Tests.{is}
 use Rattle.paper.specs.declared.MarkAnswer.{MarkAnswer}
 use Rattle.paper.specs.declared.FinalAnswer.{FinalAnswer}

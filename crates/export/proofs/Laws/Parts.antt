@@ -1,5 +1,6 @@
 -- A part that C is handed has the bytes which the paper's definition gives: block k of a buffer is block k − 1 of those behind its first.
-use Rattle.laws.specs.Kit.{◌≡◌, refl, sym, ap, ◌∙◌, ◌⊎◌, inl, inr, Bool, true, false, option_get_or, List, [], ◌∷◌, ℕ, zero, suc, ◌*◌, ◌/◌, ◌≤◌, ◌<◌, arith, length, drop, get_or, get_or-eq_default, get_or-take, ◌or◌, is_equal, is_other, upto_true, upto_false, lt_or}
+use Rattle.std.specs.Prelude.{◌≡◌, ◌⊎◌, ◌∷◌, ◌*◌, ◌/◌, ◌≤◌, ◌<◌}
+use Rattle.laws.specs.Kit.{refl, sym, ap, ◌∙◌, inl, inr, Bool, true, false, option_get_or, List, [], ℕ, zero, suc, arith, length, drop, get_or, get_or-eq_default, get_or-take, ◌or◌, is_equal, is_other, upto_true, upto_false, lt_or}
 use Rattle.laws.specs.Lists.{nth, place, until}
 use Rattle.laws.specs.Lists.Search.{nth_place, place_length}
 use Rattle.laws.specs.Lists.Keep.{until_take}

@@ -1,5 +1,6 @@
 -- One test of the length decides both, the answer and the bytes.
-use Rattle.laws.specs.Base.{◌≡◌, sym, true, false, length}
+use Rattle.std.specs.Prelude.{◌≡◌}
+use Rattle.laws.specs.Base.{sym, true, false, length}
 use Rattle.laws.specs.Kit.{is, is_equal, is_other}
 use Rattle.paper.specs.Layout.{Bytes}
 use Rattle.paper.specs.Check.{sealed}

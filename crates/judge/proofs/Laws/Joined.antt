@@ -1,5 +1,6 @@
 -- The verdict past rules 1 and 2, part by part: the sender's stored blocks are found by its slot among the used slots.
-use Rattle.laws.specs.Kit.{◌≡◌, ◌∙◌, List, ℕ}
+use Rattle.std.specs.Prelude.{◌≡◌}
+use Rattle.laws.specs.Kit.{◌∙◌, List, ℕ}
 use Rattle.paper.specs.declared.Verdict.{Verdict}
 use Rattle.paper.specs.Layout.{Bytes, Block, sender}
 use Rattle.paper.specs.Book.{numbered, slot_of, own_sender, own_series}

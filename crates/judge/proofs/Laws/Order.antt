@@ -1,5 +1,6 @@
 -- Laws of the order of checks: one verdict before another, and rule 14 position by position.
-use Rattle.laws.specs.Kit.{◌≡◌, refl, sym, ap, ap₂, ◌∙◌, Bool, true, false, ℕ, zero, suc, ◌+◌, ◌-◌, ◌≤◌, arith, ◌and◌, neg_no, neg_false, upto_yes, upto_true}
+use Rattle.std.specs.Prelude.{◌≡◌, ◌+◌, ◌-◌, ◌≤◌}
+use Rattle.laws.specs.Kit.{refl, sym, ap, ap₂, ◌∙◌, Bool, true, false, ℕ, zero, suc, arith, ◌and◌, neg_no, neg_false, upto_yes, upto_true}
 use Rattle.laws.specs.Order.{along}
 use Rattle.laws.specs.Order.Laws.{first_on, first_stop, along_agree}
 use Rattle.paper.specs.declared.Verdict.{Verdict}

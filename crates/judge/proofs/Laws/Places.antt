@@ -1,5 +1,6 @@
 -- What is stored of a series, and rules 16 and 17, by places: where the searches found what they promise, these are the paper's rules.
-use Rattle.laws.specs.Kit.{◌≡◌, sym, ap, ◌∙◌, true, cond, option_get_or, List, [], ℕ, ◌+◌, ◌/◌, ◌≤◌, ◌<◌, arith, length, take, get_or, take_all, ◌and◌, neg, is, less}
+use Rattle.std.specs.Prelude.{◌≡◌, ◌+◌, ◌/◌, ◌≤◌, ◌<◌}
+use Rattle.laws.specs.Kit.{sym, ap, ◌∙◌, true, cond, option_get_or, List, [], ℕ, arith, length, take, get_or, take_all, ◌and◌, neg, is, less}
 use Rattle.laws.specs.Lists.{same, place, has, count, keep}
 use Rattle.laws.specs.Lists.Each.{all_imply, all_each, take_as_map}
 use Rattle.laws.specs.Lists.Search.{has_agree, has_take_below, has_keep_and, find_keep_and, place_is_0}

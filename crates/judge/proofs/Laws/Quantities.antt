@@ -1,5 +1,6 @@
 -- Quantities within their ranges break none of rules 11 to 13, at any position.
-use Rattle.laws.specs.Kit.{◌≡◌, refl, sym, ◌∙◌, Bool, true, false, ℕ, ◌+◌, ◌≤◌, ◌<◌, arith, less, split, and_no_left, and_no_right, neg_false, is_equal, less_yes, less_no, less_false, upto_false}
+use Rattle.std.specs.Prelude.{◌≡◌, ◌+◌, ◌≤◌, ◌<◌}
+use Rattle.laws.specs.Kit.{refl, sym, ◌∙◌, Bool, true, false, ℕ, arith, less, split, and_no_left, and_no_right, neg_false, is_equal, less_yes, less_no, less_false, upto_false}
 use Rattle.laws.specs.Order.Laws.{first_on, along_agree}
 use Rattle.paper.specs.Layout.{Block, quantity}
 use Rattle.paper.specs.Ranges.{quantities_allowed}

@@ -1,5 +1,6 @@
 -- Rules 18 and 19 by places: the right found is the one that the paper names, and of the series of a message those with its place are those on it.
-use Rattle.laws.specs.Kit.{◌≡◌, refl, sym, ap, ap₂, ◌∙◌, Bool, true, false, cond, option_get_or, List, [], ℕ, zero, suc, ◌+◌, ◌≤◌, ◌<◌, arith, add-one, length, take, get_or, ◌and◌, neg, is, less, split, clash, and_left, and_right, and_both, and_no_left, neg_true, is_yes, is_no, is_equal, is_other, is_same}
+use Rattle.std.specs.Prelude.{◌≡◌, ◌+◌, ◌≤◌, ◌<◌}
+use Rattle.laws.specs.Kit.{refl, sym, ap, ap₂, ◌∙◌, Bool, true, false, cond, option_get_or, List, [], ℕ, zero, suc, arith, add-one, length, take, get_or, ◌and◌, neg, is, less, split, clash, and_left, and_right, and_both, and_no_left, neg_true, is_yes, is_no, is_equal, is_other, is_same}
 use Rattle.laws.specs.Lists.{place, has, keep, total}
 use Rattle.laws.specs.Lists.Same.{same_yes}
 use Rattle.laws.specs.Lists.Each.{all_each}

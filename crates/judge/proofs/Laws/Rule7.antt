@@ -1,6 +1,7 @@
 -- Rule 7's clauses on other series, by places: the first series of the message with an id or a key is an earlier one; the sender's stored
 -- series with the id is not the one with the key.
-use Rattle.laws.specs.Kit.{◌≡◌, refl, sym, ap, ap₂, ◌∙◌, Bool, true, false, List, [], ℕ, ◌+◌, ◌<◌, add-one, length, take, get_or, ◌and◌, ◌or◌, neg, is, split, and_left, and_right, and_both, or_yes_left, or_yes_right, or_else, is_equal}
+use Rattle.std.specs.Prelude.{◌≡◌, ◌+◌, ◌<◌}
+use Rattle.laws.specs.Kit.{refl, sym, ap, ap₂, ◌∙◌, Bool, true, false, List, [], ℕ, add-one, length, take, get_or, ◌and◌, ◌or◌, neg, is, split, and_left, and_right, and_both, or_yes_left, or_yes_right, or_else, is_equal}
 use Rattle.laws.specs.Lists.{same, place, has, apart, keep}
 use Rattle.laws.specs.Lists.Same.{same_yes, same_refl}
 use Rattle.laws.specs.Lists.Each.{all_imply, all_take, all_get_or_inside}

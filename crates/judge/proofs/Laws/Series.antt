@@ -1,5 +1,6 @@
 -- Rules 7 to 15, 18 and 19, series by series: those passed by are what is seen of the message, and none of them is refused.
-use Rattle.laws.specs.Kit.{◌≡◌, refl, sym, ap, ◌∙◌, Bool, List, [], ℕ, ◌+◌, ◌/◌, ◌≤◌, ◌<◌, arith, length, take, drop, get_or, Step, End, step_cut_at, step_take, end_cut}
+use Rattle.std.specs.Prelude.{◌≡◌, ◌+◌, ◌/◌, ◌≤◌, ◌<◌}
+use Rattle.laws.specs.Kit.{refl, sym, ap, ◌∙◌, Bool, List, [], ℕ, arith, length, take, drop, get_or, Step, End, step_cut_at, step_take, end_cut}
 use Rattle.laws.specs.Lists.{keep}
 use Rattle.laws.specs.Cut.{cut}
 use Rattle.laws.specs.Cut.Laws.{cut_length}

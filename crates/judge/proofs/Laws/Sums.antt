@@ -1,5 +1,6 @@
 -- Sums raised position by position, and series by series.
-use Rattle.laws.specs.Kit.{◌≡◌, refl, sym, ap, ap₂, ◌∙◌, Bool, true, false, cond, List, [], ℕ, ◌+◌, ◌*◌, ◌≤◌, ◌<◌, arith, length, drop, get_or, set, length-set, add-one, add-zero, get_or-set_same, get_or-set_other, drop-set-lt, drop-drop, get_or-drop, is, is_yes, is_equal, is_other}
+use Rattle.std.specs.Prelude.{◌≡◌, ◌+◌, ◌*◌, ◌≤◌, ◌<◌}
+use Rattle.laws.specs.Kit.{refl, sym, ap, ap₂, ◌∙◌, Bool, true, false, cond, List, [], ℕ, arith, length, drop, get_or, set, length-set, add-one, add-zero, get_or-set_same, get_or-set_other, drop-set-lt, drop-drop, get_or-drop, is, is_yes, is_equal, is_other}
 use native.Mathlib.Decide.{ℕ_discrete}
 use Rattle.laws.specs.Lists.Each.{all_imply, every_all, all_get_or}
 use Rattle.paper.specs.Layout.{Block, zeros, quantity}

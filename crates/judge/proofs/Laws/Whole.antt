@@ -1,5 +1,6 @@
 -- The verdict on a book and a message, by the parts that the code takes of them.
-use Rattle.laws.specs.Kit.{◌≡◌, refl, sym, ap, ap₂, ◌∙◌, Bool, true, false, List, ℕ, suc, ◌-◌, ◌/◌, ◌<◌, arith, length, neg_no, neg_true, neg_false}
+use Rattle.std.specs.Prelude.{◌≡◌, ◌-◌, ◌/◌, ◌<◌}
+use Rattle.laws.specs.Kit.{refl, sym, ap, ap₂, ◌∙◌, Bool, true, false, List, ℕ, suc, arith, length, neg_no, neg_true, neg_false}
 use Rattle.laws.specs.Lists.Keep.{count_until}
 use Rattle.laws.specs.Cut.{cut}
 use Rattle.laws.specs.Cut.Laws.{cut_length}

@@ -1,5 +1,6 @@
 -- The words of a line by the names of their definitions, and the lines one after another.
-use Rattle.laws.specs.Kit.{◌≡◌, sym, ap, ◌∙◌, true, false, cond, List, [], ◌∷◌, ◌++◌, ℕ, suc, ◌+◌, ◌<◌, add-zero, arith, length, drop, get_or, Step, End}
+use Rattle.std.specs.Prelude.{◌≡◌, ◌∷◌, ◌++◌, ◌+◌, ◌<◌}
+use Rattle.laws.specs.Kit.{sym, ap, ◌∙◌, true, false, cond, List, [], ℕ, suc, add-zero, arith, length, drop, get_or, Step, End}
 use mir.Syntax.{w8}
 use mir.Val.{Fits}
 use Rattle.laws.specs.Lists.{All}

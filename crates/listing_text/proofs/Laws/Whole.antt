@@ -1,5 +1,6 @@
 -- The whole text: which of the three it is, and what becomes of it in a buffer that may be too short.
-use Rattle.laws.specs.Kit.{◌≡◌, sym, ap, ◌∙◌, true, false, List, ℕ, ◌/◌, ◌≤◌, ◌<◌, arith, length, less_true, less_false}
+use Rattle.std.specs.Prelude.{◌≡◌, ◌/◌, ◌≤◌, ◌<◌}
+use Rattle.laws.specs.Kit.{sym, ap, ◌∙◌, true, false, List, ℕ, arith, length, less_true, less_false}
 use Rattle.laws.specs.Cut.{cut}
 use Rattle.laws.specs.Cut.Laws.{cut_length}
 use Rattle.paper.specs.Layout.{Bytes, Block}

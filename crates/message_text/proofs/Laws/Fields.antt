@@ -1,5 +1,6 @@
 -- A range of bytes, the rows of a table one after the other, quantities likewise, and what the tests of positions say.
-use Rattle.laws.specs.Kit.{◌≡◌, refl, sym, ◌∙◌, Bool, true, false, ◌∷◌, ℕ, suc, ◌+◌, ◌-◌, ◌≤◌, ◌<◌, arith, length, ◌and◌, neg, is, less, upto, and_both, and_no_left, and_no_right, and_left, and_right, less_yes, upto_yes, is_equal, is_other}
+use Rattle.std.specs.Prelude.{◌≡◌, ◌∷◌, ◌+◌, ◌-◌, ◌≤◌, ◌<◌}
+use Rattle.laws.specs.Kit.{refl, sym, ◌∙◌, Bool, true, false, ℕ, suc, arith, length, ◌and◌, neg, is, less, upto, and_both, and_no_left, and_no_right, and_left, and_right, less_yes, upto_yes, is_equal, is_other}
 use Rattle.laws.specs.Lists.{same}
 use Rattle.paper.specs.Layout.{Bytes, Block, kind}
 use Rattle.paper.specs.QuantityText.{quantity_read}

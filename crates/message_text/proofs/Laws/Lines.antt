@@ -1,5 +1,6 @@
 -- A block lent and back, a series begun, the lines of a text one after the other, and what is laid copied into the buffer.
-use Rattle.laws.specs.Kit.{◌≡◌, refl, sym, ap, ◌∙◌, Bool, true, false, List, [], ◌∷◌, ◌++◌, ℕ, ◌+◌, ◌-◌, ◌*◌, ◌≤◌, ◌<◌, min, add-sub_cancel_left, zero-add, arith, length, take, drop, replicate, drop-drop, length-take-le, length-append, take_at, ◌and◌, is, less, upto, and_right, less_false, upto_yes}
+use Rattle.std.specs.Prelude.{◌≡◌, ◌∷◌, ◌++◌, ◌+◌, ◌-◌, ◌*◌, ◌≤◌, ◌<◌}
+use Rattle.laws.specs.Kit.{refl, sym, ap, ◌∙◌, Bool, true, false, List, [], ℕ, min, add-sub_cancel_left, zero-add, arith, length, take, drop, replicate, drop-drop, length-take-le, length-append, take_at, ◌and◌, is, less, upto, and_right, less_false, upto_yes}
 use lib.ListN.{length-replicate}
 use lib.Seq.{take-append-le}
 use Rattle.laws.specs.Bytes.{part, written}

@@ -1,6 +1,7 @@
 -- What the series add has the remainder of the net: what is sold is added as what it lacks to 2 to the 32, and no sum is above the 2 to the 52
 -- that the definition adds.
-use Rattle.laws.specs.Kit.{◌≡◌, refl, Bool, cond, List, [], ◌∷◌, ℕ, ◌+◌, ◌-◌, ◌*◌, ◌≤◌, ◌<◌, arith, length, get_or, split, suc, ◌%◌}
+use Rattle.std.specs.Prelude.{◌≡◌, ◌∷◌, ◌+◌, ◌-◌, ◌*◌, ◌≤◌, ◌<◌, ◌%◌}
+use Rattle.laws.specs.Kit.{refl, Bool, cond, List, [], ℕ, arith, length, get_or, split, suc}
 use Rattle.std.proofs.Common.{w8, Fits}
 use Rattle.laws.specs.Lists.{total, keep, All}
 use Rattle.laws.specs.Lists.Each.{all_imply, all_keep}

@@ -1,5 +1,6 @@
 -- Sums are raised one after another, and by one block after another: remainders add up.
-use Rattle.laws.specs.Kit.{◌≡◌, refl, sym, ap, ◌∙◌, List, [], ℕ, ◌+◌, ◌-◌, ◌/◌, ◌≤◌, ◌<◌, arith, length, take, drop, get_or, ◌%◌, add-zero, set, get_or-set_same, get_or-set_other, drop-set-lt, drop-drop, get_or-drop, take_all}
+use Rattle.std.specs.Prelude.{◌≡◌, ◌+◌, ◌-◌, ◌/◌, ◌≤◌, ◌<◌, ◌%◌}
+use Rattle.laws.specs.Kit.{refl, sym, ap, ◌∙◌, List, [], ℕ, arith, length, take, drop, get_or, add-zero, set, get_or-set_same, get_or-set_other, drop-set-lt, drop-drop, get_or-drop, take_all}
 use native.Mathlib.Decide.{ℕ_discrete}
 use Rattle.laws.specs.Lists.{total}
 use Rattle.laws.specs.Lists.Count.{total_more}

@@ -1,5 +1,6 @@
 -- The sums written as entries are the nets, where the sums were 0 before the series were added.
-use Rattle.laws.specs.Kit.{◌≡◌, refl, sym, ap, ◌∙◌, true, List, ℕ, ◌≤◌, ◌<◌, arith, length, get_or, zero, suc, ◌%◌, zero-add, is, is_yes}
+use Rattle.std.specs.Prelude.{◌≡◌, ◌≤◌, ◌<◌, ◌%◌}
+use Rattle.laws.specs.Kit.{refl, sym, ap, ◌∙◌, true, List, ℕ, arith, length, get_or, zero, suc, zero-add, is, is_yes}
 use Rattle.laws.specs.Lists.{keep}
 use Rattle.laws.specs.Lists.Each.{all_imply, every_all, all_get_or}
 use Rattle.laws.specs.Bytes.Laws.{part_written_same}

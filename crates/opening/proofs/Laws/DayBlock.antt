@@ -1,5 +1,6 @@
 -- The day block that the parameters of an opening make: each of its fields holds what was put there.
-use Rattle.laws.specs.Kit.{◌≡◌, ap, ◌∙◌, true, [], ◌∷◌, ◌++◌, append_assoc, ℕ, ◌+◌, ◌≤◌, ◌<◌, arith, replicate, ◌and◌, is}
+use Rattle.std.specs.Prelude.{◌≡◌, ◌∷◌, ◌++◌, ◌+◌, ◌≤◌, ◌<◌}
+use Rattle.laws.specs.Kit.{ap, ◌∙◌, true, [], append_assoc, ℕ, arith, replicate, ◌and◌, is}
 use Rattle.laws.specs.Lists.{every}
 use Rattle.laws.specs.Bytes.{part, value, little, number}
 use Rattle.laws.specs.Bytes.Laws.{little_length, value_little, part_here, part_over}

@@ -1,5 +1,6 @@
 -- A block made of the parameters is sound exactly when each of them passes its own test.
-use Rattle.laws.specs.Kit.{◌≡◌, sym, ◌∙◌, Bool, true, ◌<◌, ◌and◌, is, upto, split, clash, and_left, and_right, and_both, and_true, is_yes, is_equal}
+use Rattle.std.specs.Prelude.{◌≡◌, ◌<◌}
+use Rattle.laws.specs.Kit.{sym, ◌∙◌, Bool, true, ◌and◌, is, upto, split, clash, and_left, and_right, and_both, and_true, is_yes, is_equal}
 use Rattle.paper.specs.Ranges.{n_allowed, lead_allowed, clock_allowed, rule_allowed}
 use Rattle.paper.specs.Ids.{day_well_formed}
 use Rattle.paper.specs.Eic.{eic_valid}

@@ -1,5 +1,6 @@
 -- The answers of an opening, and the book as it leaves it.
-use Rattle.laws.specs.Kit.{◌≡◌, refl, true, false, ◌++◌, ℕ, ◌-◌, ◌/◌, ◌≤◌, arith, length, take, drop, replicate, neg, is, and_left, and_right, upto_yes}
+use Rattle.std.specs.Prelude.{◌≡◌, ◌++◌, ◌-◌, ◌/◌, ◌≤◌}
+use Rattle.laws.specs.Kit.{refl, true, false, ℕ, arith, length, take, drop, replicate, neg, is, and_left, and_right, upto_yes}
 use Rattle.paper.specs.declared.OpenAnswer.{OpenAnswer}
 use Rattle.paper.specs.Layout.{Bytes}
 use Rattle.paper.specs.Ranges.{whole_blocks}

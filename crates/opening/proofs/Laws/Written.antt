@@ -1,5 +1,6 @@
 -- A block of zeros into which each field is written at its place is, once sealed, the day block.
-use Rattle.laws.specs.Kit.{◌≡◌, refl, sym, ap, ◌∙◌, ◌++◌, ℕ, replicate, set}
+use Rattle.std.specs.Prelude.{◌≡◌, ◌++◌}
+use Rattle.laws.specs.Kit.{refl, sym, ap, ◌∙◌, ℕ, replicate, set}
 use Rattle.laws.specs.Bytes.{written, little}
 use Rattle.paper.specs.Check.{sealed}
 use Rattle.paper.specs.Layout.{Bytes}

@@ -1,5 +1,6 @@
 -- What the loop that writes digits does in a turn, what the pieces of a text give together, and what each answer of printing leaves.
-use Rattle.laws.specs.Kit.{◌≡◌, refl, sym, ◌∙◌, ⊎_elim, Bool, true, false, cond, List, ◌∷◌, ℕ, zero, suc, ◌+◌, ◌-◌, ◌/◌, ◌%◌, ◌≤◌, ◌<◌, add-zero, zero-add, arith, length, set, length-append, is, less, lt_or, less_true, less_false}
+use Rattle.std.specs.Prelude.{◌≡◌, ◌∷◌, ◌+◌, ◌-◌, ◌/◌, ◌%◌, ◌≤◌, ◌<◌}
+use Rattle.laws.specs.Kit.{refl, sym, ◌∙◌, ⊎_elim, Bool, true, false, cond, List, ℕ, zero, suc, add-zero, zero-add, arith, length, set, length-append, is, less, lt_or, less_true, less_false}
 use Rattle.laws.specs.Bytes.{written}
 use Rattle.laws.specs.Bytes.Laws.{written_none, written_cons, written_last, written_append, written_take_drop}
 use Rattle.paper.specs.QuantityText.{last_digits, width_of, decimal, quantity_text, quantity_printed, printed_into}

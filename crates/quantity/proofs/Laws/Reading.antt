@@ -1,5 +1,6 @@
 -- One turn of each loop that reads: the run of digits goes on or ends, the number grows by a digit and stays small.
-use Rattle.laws.specs.Kit.{◌≡◌, true, false, List, ℕ, ◌+◌, ◌-◌, ◌*◌, ◌^◌, ◌≤◌, ◌<◌, pow-suc, pow-le-pow_right, mul-le-mul, add-one, arith, length, get_or, take, drop, drop_of_length-le, drop-cons, ◌and◌, is, upto, neg_true, and_both, upto_true, is_equal}
+use Rattle.std.specs.Prelude.{◌≡◌, ◌+◌, ◌-◌, ◌*◌, ◌^◌, ◌≤◌, ◌<◌}
+use Rattle.laws.specs.Kit.{true, false, List, ℕ, pow-suc, pow-le-pow_right, mul-le-mul, add-one, arith, length, get_or, take, drop, drop_of_length-le, drop-cons, ◌and◌, is, upto, neg_true, and_both, upto_true, is_equal}
 use Rattle.laws.specs.Lists.{every}
 use Rattle.laws.specs.Lists.Each.{every_all, all_get_or_inside}
 use Rattle.laws.specs.Lists.Keep.{until_hit, until_end}

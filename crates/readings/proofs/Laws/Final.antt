@@ -1,5 +1,6 @@
 -- The refusals of a final value in their order, and the value past them.
-use Rattle.laws.specs.Kit.{◌≡◌, true, false, List, ℕ, ◌-◌, ◌≤◌, ◌<◌, ◌or◌, neg, is_equal, is_other, less_true, less_false}
+use Rattle.std.specs.Prelude.{◌≡◌, ◌-◌, ◌≤◌, ◌<◌}
+use Rattle.laws.specs.Kit.{true, false, List, ℕ, ◌or◌, neg, is_equal, is_other, less_true, less_false}
 use Rattle.laws.specs.Bytes.{part}
 use Rattle.paper.specs.declared.FinalAnswer.{FinalAnswer}
 use Rattle.paper.specs.Layout.{Bytes, Block, n_of, rule_of}

@@ -1,5 +1,6 @@
 -- The block at a place that a search gave is what the search finds; at place 0 there is none.
-use Rattle.laws.specs.Kit.{◌≡◌, refl, sym, ap, ◌∙◌, Bool, none, some, option_get_or, List, [], ℕ, zero, suc, ◌-◌, arith, get_or}
+use Rattle.std.specs.Prelude.{◌≡◌, ◌-◌}
+use Rattle.laws.specs.Kit.{refl, sym, ap, ◌∙◌, Bool, none, some, option_get_or, List, [], ℕ, zero, suc, arith, get_or}
 use Rattle.laws.specs.Lists.{find, place}
 use Rattle.laws.specs.Lists.Search.{has_no_find, place_none, place_find}
 use Rattle.paper.specs.Layout.{Block}

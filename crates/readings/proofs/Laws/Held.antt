@@ -1,5 +1,6 @@
 -- What a party holds under a pair, by the place of its trade, and the final value of the pair from there.
-use Rattle.laws.specs.Kit.{◌≡◌, true, false, some, List, [], ◌++◌, ℕ, arith, ◌and◌, neg, is, split, neg_or_neg, is_yes, is_no}
+use Rattle.std.specs.Prelude.{◌≡◌, ◌++◌}
+use Rattle.laws.specs.Kit.{true, false, some, List, [], ℕ, arith, ◌and◌, neg, is, split, neg_or_neg, is_yes, is_no}
 use Rattle.laws.specs.Lists.{place}
 use Rattle.laws.specs.Slices.{part_past}
 use Rattle.paper.specs.declared.Rule.{Rule}

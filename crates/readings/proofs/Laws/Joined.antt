@@ -1,5 +1,6 @@
 -- A list against two joined: it is cut where the first of them ends.
-use Rattle.laws.specs.Kit.{◌≡◌, sym, ◌∙◌, Bool, false, List, ◌++◌, ℕ, ◌+◌, ◌-◌, ◌<◌, arith, length, take, drop, length-append, take-append_seam, drop-append_seam, ◌and◌}
+use Rattle.std.specs.Prelude.{◌≡◌, ◌++◌, ◌+◌, ◌-◌, ◌<◌}
+use Rattle.laws.specs.Kit.{sym, ◌∙◌, Bool, false, List, ℕ, arith, length, take, drop, length-append, take-append_seam, drop-append_seam, ◌and◌}
 use Rattle.laws.specs.Lists.{same}
 use Rattle.laws.specs.Lists.Same.{same_split, same_length_other}
 use Rattle.laws.specs.Slices.{rest_slice}

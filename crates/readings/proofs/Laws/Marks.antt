@@ -1,5 +1,6 @@
 -- The mark and the block of a stored series, by its place.
-use Rattle.laws.specs.Kit.{◌≡◌, sym, true, false, List, [], ℕ}
+use Rattle.std.specs.Prelude.{◌≡◌}
+use Rattle.laws.specs.Kit.{sym, true, false, List, [], ℕ}
 use Rattle.laws.specs.Lists.{place}
 use Rattle.paper.specs.declared.MarkAnswer.{MarkAnswer}
 use Rattle.paper.specs.Layout.{Bytes, Block, differing, first, partner}

@@ -1,5 +1,6 @@
 -- A part of a list that was lent and is back: one block, or the first blocks.
-use Rattle.laws.specs.Kit.{◌≡◌, sym, ap, ap₂, ◌∙◌, List, [], ◌++◌, append_assoc, ℕ, ◌+◌, ◌-◌, ◌*◌, ◌/◌, ◌≤◌, ◌<◌, add-sub_cancel_left, arith, length, take, drop, get_or, set, drop-drop}
+use Rattle.std.specs.Prelude.{◌≡◌, ◌++◌, ◌+◌, ◌-◌, ◌*◌, ◌/◌, ◌≤◌, ◌<◌}
+use Rattle.laws.specs.Kit.{sym, ap, ap₂, ◌∙◌, List, [], append_assoc, ℕ, add-sub_cancel_left, arith, length, take, drop, get_or, set, drop-drop}
 use Rattle.laws.specs.Bytes.{written}
 use Rattle.laws.specs.Bytes.Laws.{written_take_drop}
 use Rattle.laws.specs.Cut.{cut}

@@ -1,5 +1,6 @@
 -- A book cut as the code cuts it: the day block and the used slots, then the free ones.
-use Rattle.laws.specs.Kit.{◌≡◌, refl, sym, ap, ◌∙◌, Bool, true, false, ◌++◌, ℕ, suc, ◌+◌, ◌-◌, ◌*◌, ◌/◌, ◌%◌, ◌≤◌, div-add-mod', arith, length, take, drop, length-drop, length-take-le, drop-drop, ◌and◌, is, and_left, and_right, and_true, is_yes, upto_yes}
+use Rattle.std.specs.Prelude.{◌≡◌, ◌++◌, ◌+◌, ◌-◌, ◌*◌, ◌/◌, ◌%◌, ◌≤◌}
+use Rattle.laws.specs.Kit.{refl, sym, ap, ◌∙◌, Bool, true, false, ℕ, suc, div-add-mod', arith, length, take, drop, length-drop, length-take-le, drop-drop, ◌and◌, is, and_left, and_right, and_true, is_yes, upto_yes}
 use Rattle.laws.specs.Lists.{every, until}
 use Rattle.laws.specs.Lists.Each.{drop_take, all_imply, every_all, all_every, every_append}
 use Rattle.laws.specs.Lists.Keep.{until_take, until_length}

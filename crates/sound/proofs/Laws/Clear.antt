@@ -1,5 +1,6 @@
 -- A block clashes with none outside its group, so a walk along the group tells whether it clashes with any.
-use Rattle.laws.specs.Kit.{◌≡◌, refl, sym, ap, ◌∙◌, Bool, true, false, List, [], ℕ, ◌+◌, ◌%◌, ◌<◌, length, drop, get_or, ◌and◌, neg, split, clash, and_left, and_right, or_no, or_else, is_yes, neg_true, is_same, is_equal}
+use Rattle.std.specs.Prelude.{◌≡◌, ◌+◌, ◌%◌, ◌<◌}
+use Rattle.laws.specs.Kit.{refl, sym, ap, ◌∙◌, Bool, true, false, List, [], ℕ, length, drop, get_or, ◌and◌, neg, split, clash, and_left, and_right, or_no, or_else, is_yes, neg_true, is_same, is_equal}
 use Rattle.laws.specs.Lists.{every}
 use Rattle.paper.specs.Layout.{Block}
 use Rattle.paper.specs.Sound.{same_sender, same_series, same_right}

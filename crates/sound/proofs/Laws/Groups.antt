@@ -1,5 +1,6 @@
 -- The group of a block, that each group has its bucket, and a group counted along its links.
-use Rattle.laws.specs.Kit.{◌≡◌, sym, ap, ◌∙◌, Bool, true, false, List, [], ℕ, ◌+◌, ◌/◌, ◌%◌, ◌≤◌, ◌<◌, add-zero, arith, length, drop, get_or, is, split, and_left, and_right}
+use Rattle.std.specs.Prelude.{◌≡◌, ◌+◌, ◌/◌, ◌%◌, ◌≤◌, ◌<◌}
+use Rattle.laws.specs.Kit.{sym, ap, ◌∙◌, Bool, true, false, List, [], ℕ, add-zero, arith, length, drop, get_or, is, split, and_left, and_right}
 use Rattle.laws.specs.Lists.{every, count}
 use Rattle.laws.specs.Lists.Each.{all_imply, all_get_or_inside, every_all}
 use Rattle.laws.specs.Lists.Count.{count_length}

@@ -1,5 +1,6 @@
 -- Two blocks whose tags both differ do not clash.
-use Rattle.laws.specs.Kit.{◌≡◌, sym, ap, ◌∙◌, true, false, List, [], ℕ, ◌+◌, ◌≤◌, ◌<◌, arith, length, drop, get_or, set, get_or-set_same, get_or-set_other, ◌and◌, ◌or◌, is, less, split, clash, and_left, and_right, or_no, or_else, or_yes_left, or_yes_right, is_equal, less_yes, less_no}
+use Rattle.std.specs.Prelude.{◌≡◌, ◌+◌, ◌≤◌, ◌<◌}
+use Rattle.laws.specs.Kit.{sym, ap, ◌∙◌, true, false, List, [], ℕ, arith, length, drop, get_or, set, get_or-set_same, get_or-set_other, ◌and◌, ◌or◌, is, less, split, clash, and_left, and_right, or_no, or_else, or_yes_left, or_yes_right, is_equal, less_yes, less_no}
 use mathlib.Core.Bool.{◌||◌}
 use lib.Dec.{eqb}
 use Rattle.laws.specs.Lists.{same}

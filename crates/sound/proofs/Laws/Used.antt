@@ -1,5 +1,6 @@
 -- The clauses on the used slots, in the code's order; a sender's count, by its own slot.
-use Rattle.laws.specs.Kit.{◌≡◌, refl, sym, ◌∙◌, Bool, true, false, List, [], ℕ, ◌+◌, ◌/◌, ◌%◌, ◌≤◌, ◌<◌, add-one, arith, length, get_or, ◌and◌, is, split, clash, and_left, and_right, and_both, and_true, and_no_right, and_assoc, ◌or◌, or_left, neg, is_other}
+use Rattle.std.specs.Prelude.{◌≡◌, ◌+◌, ◌/◌, ◌%◌, ◌≤◌, ◌<◌}
+use Rattle.laws.specs.Kit.{refl, sym, ◌∙◌, Bool, true, false, List, [], ℕ, add-one, arith, length, get_or, ◌and◌, is, split, clash, and_left, and_right, and_both, and_true, and_no_right, and_assoc, ◌or◌, or_left, neg, is_other}
 use Rattle.laws.specs.Lists.{every, apart, count}
 use Rattle.laws.specs.Lists.Same.{same_refl}
 use Rattle.laws.specs.Lists.Each.{all_each, every_agree}

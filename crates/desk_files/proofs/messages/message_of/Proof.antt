@@ -1,7 +1,0 @@
--- The room is lent whole: it has as many bytes as it was made with, which a law says without counting them.
-use Rattle.laws.specs.Base.{ℕ, sym, length-replicate}
-use Rattle.desk_files.proofs.messages.message_of.Statement.{statement}
-use Rattle.desk_files.proofs.messages.message_of.Tie as tie
-
-pub message_of_spec : {M : Type 1} → statement M
-message_of_spec = tie.close (tie.spec (λ c κs. tt) (λ c. sym (length-replicate {A = ℕ} _ 0)) (λ c κs. tt) (λ c. tt))

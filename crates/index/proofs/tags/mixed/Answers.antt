@@ -1,0 +1,8 @@
+-- The sum fits into eight bytes and its remainder into four.
+use Rattle.index.specs.Tags.{mixed}
+use Rattle.std.proofs.Common.{rules}
+use Rattle.index.proofs.tags.mixed.Goals as goal
+
+pub returns : goal.returns
+unfolding mixed
+returns c = search rules

@@ -1,8 +1,0 @@
--- The offset and the width are the definition's.
-use Rattle.paper.specs.Layout.{day_of_message}
-use Rattle.layout.proofs.day_of_message.Statement.{statement}
-use Rattle.layout.proofs.day_of_message.Tie as tie
-
-pub day_of_message_spec : {M : Type 1} → statement M
-unfolding day_of_message
-day_of_message_spec = tie.close (tie.spec (λ c κs. tt) (λ c. c.part_of.ensures))

@@ -1,0 +1,7 @@
+-- The number told is the conversion's.
+use Rattle.replay_answers.proofs.day_calls.convert.Goals as goal
+
+pub returns : goal.returns
+returns c =
+    let k = c.convert.ensures in
+    (rw k.0 at c.one.ensures, k.1)

@@ -1,0 +1,11 @@
+use Rattle.std.specs.Prelude.{◌≡◌, ◌≤◌, ◌-◌, ◌/◌}
+use Rattle.laws.specs.Kit.{length}
+use Rattle.laws.specs.Cut.{cut}
+use Rattle.settling.specs.Values.{Valued}
+use Rattle.settling.proofs.linked_values.Given as goal
+
+abbrev pub invariant-loop-i : goal.invariant-loop-i
+invariant-loop-i l = (l.i ≤ length l.us / 512) × Valued l.rule (cut 512 l.us) l.k l.i l.values × (length l.values ≡ 1000)
+
+abbrev pub decreases-loop-i : goal.decreases-loop-i
+decreases-loop-i l = length l.us / 512 - l.i

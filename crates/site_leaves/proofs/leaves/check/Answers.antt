@@ -1,0 +1,20 @@
+-- The block has the one byte that the definition puts there.
+use Rattle.std.specs.Prelude.{◌∷◌}
+use Rattle.laws.specs.Kit.{ap, ◌∙◌}
+use Rattle.laws.specs.Base.{ap₂, [], ℕ, replicate}
+use Rattle.laws.specs.Bytes.{written}
+use Rattle.paper.specs.Check.{check_of}
+use Rattle.desk_text.specs.declared.NumberRead.{NumberRead}
+use Rattle.desk_text.specs.Arguments.{byte_value}
+use Rattle.site_leaves.specs.Leaves.{block_with}
+use Rattle.site_leaves.proofs.leaves.check.Goals as goal
+
+pub returns : goal.returns
+unfolding block_with
+returns c =
+    c.check_of.ensures
+    ∙ ap check_of
+    (c.put_byte.ensures
+    ∙ ap₂ (λ (a b : ℕ). written a (b ∷ []) (replicate 512 0))
+    (ap (λ (q : NumberRead). q.value) c.number_read.ensures)
+    (c.byte_value.ensures ∙ ap (λ (q : NumberRead). byte_value q.value) c.number_read-2.ensures))

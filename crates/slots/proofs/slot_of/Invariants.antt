@@ -1,0 +1,12 @@
+use Rattle.std.specs.Prelude.{◌≡◌, ◌≤◌, ◌-◌, ◌/◌}
+use Rattle.laws.specs.Kit.{false, length, take}
+use Rattle.laws.specs.Lists.{has}
+use Rattle.laws.specs.Cut.{cut}
+use Rattle.paper.specs.Book.{is_sender_block_of}
+use Rattle.slots.proofs.slot_of.Given as goal
+
+abbrev pub invariant-loop-i : goal.invariant-loop-i
+invariant-loop-i l = (l.i ≤ length l.us / 512) × (has (is_sender_block_of l.e) (take l.i (cut 512 l.us)) ≡ false)
+
+abbrev pub decreases-loop-i : goal.decreases-loop-i
+decreases-loop-i l = length l.us / 512 - l.i

@@ -1,0 +1,12 @@
+use Rattle.std.specs.Prelude.{◌≤◌, ◌/◌}
+use Rattle.laws.specs.Kit.{length}
+use Rattle.laws.specs.Cut.{cut}
+use Rattle.index.specs.Linked.{Links}
+use Rattle.sound.specs.Links.{in_group}
+use Rattle.sound.proofs.links.link.Given as goal
+
+abbrev pub invariant-loop-i : goal.invariant-loop-i
+invariant-loop-i l = (l.i ≤ length l.us / 512) × Links in_group (cut 512 l.us) l.i l.heads l.nexts
+
+abbrev pub decreases-loop-i : goal.decreases-loop-i
+decreases-loop-i l = l.i
