@@ -1,4 +1,4 @@
-/* The desk's calls for C. Link with target/staticlib/libexport.a (rt staticlib export), for x86-64; examples/desk.c is a first lesson.
+/* The desk's calls for C. Link with crates/export/out/libexport.a (tools/prove export), for x86-64; examples/desk.c is a first lesson.
 
    A buffer is a pointer and a length in bytes. Every call answers for all contents and all lengths of what it is lent, keeps nothing of it past its
    return, and reads and writes nothing outside it. A pointer may be any but null where its length is 0. crates/export/src has each call's promise as it
