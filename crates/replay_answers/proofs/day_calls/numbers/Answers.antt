@@ -2,6 +2,7 @@
 use Rattle.laws.specs.Kit.{is, is_other}
 use Rattle.replay_answers.specs.Answers.{day_numbers, day_after, rule_named}
 use Rattle.replay_answers.proofs.day_calls.numbers.Goals as goal
+use Rattle.std.proofs.Common.{rules}
 
 pub returns-in-5 : goal.returns-in-5
 unfolding day_numbers day_after is
@@ -16,7 +17,7 @@ returns-in-6 c =
 pub returns-in-7 : goal.returns-in-7
 unfolding day_numbers day_after is
 returns-in-7 c =
-    rw c.in-7.is c.submit.ensures
+    rw c.in-7.is (search rules)
 
 pub returns-in-24 : goal.returns-in-24
 unfolding day_numbers day_after rule_named is
@@ -26,7 +27,7 @@ returns-in-24 c =
 pub returns-in-25 : goal.returns-in-25
 unfolding day_numbers day_after is
 returns-in-25 c =
-    rw c.in-25.is c.convert.ensures
+    rw c.in-25.is (search rules)
 
 pub returns-in_default : goal.returns-in_default
 unfolding day_numbers day_after
