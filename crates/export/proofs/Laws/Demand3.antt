@@ -1,7 +1,7 @@
 -- Each call gives what its definition gives, and of the definitions demand 3 is proved call by call: an equation for the book after the call, or for the answer,
 -- carries it over.
 use Rattle.std.specs.Prelude.{◌≡◌, ◌∷◌, ◌++◌}
-use Rattle.laws.specs.Base.{refl, sym, ap, ◌∙◌, cond, List, [], ℕ}
+use Rattle.laws.specs.Base.{refl, sym, ap, ◌∙◌, cond, List, [], ℕ, arith}
 use Rattle.laws.specs.Tests.{is}
 use Rattle.paper.specs.declared.MarkAnswer.{MarkAnswer}
 use Rattle.paper.specs.declared.FinalAnswer.{FinalAnswer}
@@ -51,10 +51,14 @@ opening_kept b o {r} e =
       λ n. e.1 ∙ refused_opening_changes_nothing b o (λ z. n (q ∙ z)),
     )
 
+-- the same of a list that is the messages kept: where it is another, that is told at once, and no definition is looked into
+demand3_kept : (book : Bytes) (messages : List Bytes) → messages ≡ kept_messages (used book) → Invariant book (kept_messages (used book)) → Demand3 book messages
+demand3_kept book messages p v = rw p (demand3 book (kept_messages (used book)) v)
+
 pub conversion_kept : (b : Bytes) {r : ℕ} {c : Bytes} → (r ≡ conversion_number b) × (c ≡ converted b) → ConversionKeeps b r c
 unfolding ConversionKeeps FinalsStay
-conversion_kept b e = (
-  λ z. rw e.1 (demand3 (converted b) (kept_messages (used (converted b))) (conversion_begins b (sym e.0 ∙ z))),
+conversion_kept b {c = c} e = (
+  λ z. demand3_kept c _ (grind arith) (rw e.1 (conversion_begins b (sym e.0 ∙ z))),
   λ n. e.1 ∙ conversion_leaves b (λ z. n (e.0 ∙ z)),
   rw e.1 (final_after_conversion b),
 )
