@@ -1,4 +1,6 @@
 // The arguments that the program is started with, as words: one behind the other, a zero byte after each.
+ghost use Rattle.std.specs.Prelude.{◌≤◌};
+
 use desk_text::put::put;
 use std::env::FillError;
 use std::rt::Env;
@@ -27,7 +29,9 @@ fn is_given(rt: &impl Env, i: usize) -> bool {
 }
 
 // How many arguments there are, the program's own name among them: twelve stands for more than eleven.
-pub fn count(rt: &impl Env) -> usize {
+pub fn count(rt: &impl Env) -> usize
+    ensures { result ≤ 12 }
+{
     let mut n = 0;
     while n < 12 {
         if !is_given(rt, n) {
