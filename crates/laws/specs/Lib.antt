@@ -8,6 +8,7 @@ pub mod Order
 pub mod Table
 pub mod Slices
 pub mod Loops
+pub mod Chains
 pub mod Skips
 pub mod InPlace
 pub mod Kit

@@ -4,23 +4,23 @@
 
 // A quarter-hour of the day, from 1; 0 where an answer has none.
 #[repr(C)]
-#[derive(Clone, Copy)]
+#[derive(Clone, Copy, PartialEq, Eq)]
 pub struct Position(pub usize);
 
 // A place for a block in the book, from 1; 0 where an answer has none.
 #[repr(C)]
-#[derive(Clone, Copy)]
+#[derive(Clone, Copy, PartialEq, Eq)]
 pub struct Slot(pub usize);
 
 // A minute, counted from 10,080 minutes before the day's start, as the day block keeps its clock.
 #[repr(C)]
-#[derive(Clone, Copy)]
+#[derive(Clone, Copy, PartialEq, Eq)]
 pub struct Minute(pub u16);
 
 // The rule by which a final value is chosen, by the byte that names it in the day block: any byte may be put to an opening, and no sound book has another
 // than these two.
 #[repr(C)]
-#[derive(Clone, Copy)]
+#[derive(Clone, Copy, PartialEq, Eq)]
 pub struct Rule(pub u8);
 
 // The seller's quantity.
