@@ -1,4 +1,5 @@
 // "New blocks take the lowest free slots, sender first, then new series in message order".
+// Rows have a fixed length here, since the desk has no heap; 0 stands for no place, as in the book's own fields.
 ghost use Rattle.std.specs.Prelude.{◌≡◌, ◌+◌, ◌*◌, ◌/◌, ◌≤◌, length};
 ghost use Rattle.laws.specs.Cut.{cut};
 ghost use Rattle.accept.specs.Steps.{Laid, LaidInto, added_at, added_of, new_of, sender_if_new};
@@ -33,12 +34,9 @@ fn add_series(
     requires { (length series.now / 512 ≤ 1000) × (512 * (start + length (added_of slot.0 places.now series.now)) ≤ length slots.old) }
     ensures { Laid start (added_of slot.0 places.now series.now) (cut 512 slots.old) (cut 512 slots.new) result }
 {
-    let count = series.len() / 512;
     let mut next = start;
-    let mut k = 0;
-    while k < count {
+    for k in 0..series.len() / 512 {
         next = add_if_new(slots, next, block_at(series, k), wide(places[k]), slot);
-        k += 1;
     }
     next
 }
@@ -48,7 +46,7 @@ fn add_sender(slots: &mut [u8], used: usize, kept: &[u8; 512], had: Slot) -> usi
     requires { 512 * (used + length (sender_if_new had.0 kept.now)) ≤ length slots.old }
     ensures { Laid used (sender_if_new had.0 kept.now) (cut 512 slots.old) (cut 512 slots.new) result }
 {
-    if had.0 == 0 {
+    if had == Slot(0) {
         let start = 512 * used;
         write_bytes(&mut slots[start..start + 512], 0, kept);
         return used + 1;

@@ -1,5 +1,6 @@
 // An acceptance ("Accepted (0, A01)"): every byte that it writes into the book. New blocks are added first; then the sender's
 // stored blocks are renewed; then the marks of both sides are put right. What the judgement has found is handed in: nothing is sought twice.
+// Rows have a fixed length here, since the desk has no heap; 0 stands for no place, as in the book's own fields.
 #![tactic(auto)]
 
 ghost use Rattle.std.specs.Prelude.{◌≡◌, cond, ◌+◌, ◌≤◌, length};
@@ -32,15 +33,15 @@ pub mod renewal;
 pub struct Standing {
     pub n: usize,
     pub used: usize,
-    pub slot: usize,
+    pub slot: Slot,
 }
 
 // The slot that a sender has, or the lowest free behind the used.
-fn slot_for(had: usize, used: usize) -> usize
+fn slot_for(had: Slot, used: usize) -> Slot
     requires { used ≤ 1000 }
-    ensures { result ≡ cond (is had 0) (used + 1) had }
+    ensures { result.0 ≡ cond (is had.0 0) (used + 1) had.0 }
 {
-    if had == 0 { used + 1 } else { had }
+    if had == Slot(0) { Slot(used + 1) } else { had }
 }
 
 // Over a book's slots; `ours` is the day block's area. `places` says where the series of the message stand among the used, `numbers` which series of the message
@@ -54,7 +55,7 @@ fn accept_into(
     places: &[u16; 1000],
     numbers: &[u16; 1000],
 ) -> usize
-    requires { Placing standing.n ours.now (length (cut 512 slots.old)) (until is_free (cut 512 slots.old)) head.now (cut 512 series.now) × Handed (until is_free (cut 512 slots.old)) head.now (cut 512 series.now) standing.used standing.slot places.now numbers.now }
+    requires { Placing standing.n ours.now (length (cut 512 slots.old)) (until is_free (cut 512 slots.old)) head.now (cut 512 series.now) × Handed (until is_free (cut 512 slots.old)) head.now (cut 512 series.now) standing.used standing.slot.0 places.now numbers.now }
     ensures { (cut 512 slots.new ≡ accepted_over standing.n ours.now head.now (cut 512 series.now) (cut 512 slots.old)) × (result ≡ length (visited (placed ours.now (until is_free (cut 512 slots.old)) head.now (cut 512 series.now)))) }
 {
     let had = standing.slot;
@@ -62,14 +63,17 @@ fn accept_into(
     let used_end = 512 * used;
     let slot = slot_for(had, used);
     let kept = kept_sender(ours, head, series);
-    let next = add_blocks(slots, used, &kept, series, Slot(had), Slot(slot), places);
-    renew_all(&mut slots[..used_end], &kept, series, Slot(slot), numbers);
+    let next = add_blocks(slots, used, &kept, series, had, slot, places);
+    renew_all(&mut slots[..used_end], &kept, series, slot, numbers);
     let end = 512 * next;
-    remark_all(&mut slots[..end], standing.n, series, Slot(slot))
+    remark_all(&mut slots[..end], standing.n, series, slot)
 }
 
 // Called where the verdict is 0, which gives `Fits`: so nothing is written before rules 16 and 17 are passed. What the judgement has found is handed
 // on, and not sought again.
+//
+// It is never inlined: what it keeps on the stack does not stand beside what the judgement does, so that a submission needs no more stack than the C header says.
+#[inline(never)]
 pub fn accept(
     book: &mut [u8],
     message: &[u8],
@@ -84,7 +88,7 @@ pub fn accept(
     let standing = Standing {
         n: n_of(book) as usize,
         used: used_count,
-        slot: slot.0,
+        slot,
     };
     let ours = area_of(book);
     accept_into(

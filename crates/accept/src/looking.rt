@@ -1,8 +1,8 @@
 // "The search for counterparts", slot by slot: one look at each used slot, in ascending order.
+// Rows have a fixed length here, since the desk has no heap; 0 stands for no place, as in the book's own fields.
 ghost use Rattle.std.specs.Prelude.{◌≡◌, true, ◌-◌, ◌/◌, ◌≤◌, ◌<◌, length, take};
 ghost use Rattle.laws.specs.Lists.{place};
 ghost use Rattle.laws.specs.Cut.{cut};
-ghost use Rattle.paper.specs.Layout.{zeros};
 ghost use Rattle.paper.specs.Book.{trade, trade_is};
 ghost use Rattle.paper.specs.Looks.{visited, look, found};
 ghost use Rattle.facts.specs.Partners.{Homes};
@@ -10,7 +10,8 @@ ghost use Rattle.index.specs.declared.By.TheVariants.{Trade};
 ghost use Rattle.index.specs.Linked.{own_in, Links};
 ghost use Rattle.accept.specs.Steps.{Sent, TradeNumbers, first_kept, home_noted};
 
-use index::{By, IN_MESSAGE, link_own, no_heads, no_nexts, own_with};
+use index::buckets::Buckets;
+use index::{By, IN_MESSAGE, link_own, own_with};
 use layout::senders_slot;
 use paper::Slot;
 use slots::{block_at, is_series, is_series_of, is_trade};
@@ -25,16 +26,16 @@ fn keep_first(row: &mut [u16; 200], number: usize, slot: Slot)
     }
 }
 
-// The number of the message's trade between the block's parties; 0 where there is none, and for an external schedule, which is not sought for. `heads` and
-// `nexts` link the message's own series by their pairs.
-fn trade_number(block: &[u8], series: &[u8], heads: &[u16; 1024], nexts: &[u16; 1000]) -> usize
-    requires { Sent (cut 512 series.now) × Links (own_in 0 Trade) (cut 512 series.now) 0 heads.now nexts.now }
+// The number of the message's trade between the block's parties; 0 where there is none, and for an external schedule, which is not sought for. `buckets` link
+// the message's own series by their pairs.
+fn trade_number(block: &[u8], series: &[u8], buckets: &Buckets) -> usize
+    requires { Sent (cut 512 series.now) × Links (own_in 0 Trade) (cut 512 series.now) 0 buckets.now.heads buckets.now.nexts }
     ensures { (result ≡ place (trade_is (trade block.now)) (cut 512 series.now)) × (result ≤ 200) }
 {
     if !is_trade(block) {
         return 0;
     }
-    own_with(series, IN_MESSAGE, By::Trade, block, heads, nexts)
+    own_with(series, IN_MESSAGE, By::Trade, block, buckets)
 }
 
 // "Each look is one step": of the book it is lent one slot's number and block. Told is the number of the message's trade between the block's parties.
@@ -42,22 +43,21 @@ fn look(
     slot: Slot,
     block: &[u8],
     series: &[u8],
-    heads: &[u16; 1024],
-    nexts: &[u16; 1000],
+    buckets: &Buckets,
     own: Slot,
     partners: &mut [u16; 200],
 ) -> usize
-    requires { (slot.0 ≤ 1000) × Sent (cut 512 series.now) × Links (own_in 0 Trade) (cut 512 series.now) 0 heads.now nexts.now × (length partners.old ≡ 200) }
+    requires { (slot.0 ≤ 1000) × Sent (cut 512 series.now) × Links (own_in 0 Trade) (cut 512 series.now) 0 buckets.now.heads buckets.now.nexts × (length partners.old ≡ 200) }
     ensures { (take (length (cut 512 series.now)) partners.new ≡ look slot.0 block.now (cut 512 series.now) own.0 (take (length (cut 512 series.now)) partners.old)) × (result ≡ place (trade_is (trade block.now)) (cut 512 series.now)) × (result ≤ 200) × (length partners.new ≡ 200) }
 {
-    let number = trade_number(block, series, heads, nexts);
+    let number = trade_number(block, series, buckets);
     if number == 0 {
         return number;
     }
     if !is_series(block) {
         return number;
     }
-    if senders_slot(block).0 == own.0 {
+    if senders_slot(block) == own {
         return number;
     }
     keep_first(partners, number, slot);
@@ -77,39 +77,36 @@ fn note_home(slot: Slot, block: &[u8], own: Slot, number: usize, homes: &mut [u1
     }
 }
 
-// One pass over the used slots; the number of looks is returned. `numbers` says of each block which trade of the message has its parties, `homes` where the
-// message's trades are placed, so that neither is sought again.
-pub fn look_all(
-    us: &[u8],
-    series: &[u8],
-    slot: Slot,
-    partners: &mut [u16; 200],
-    homes: &mut [u16; 200],
-    numbers: &mut [u16; 1000],
-) -> usize
-    requires { (length us.now / 512 ≤ 1000) × Sent (cut 512 series.now) × (zeros partners.old ≡ true) × (length partners.old ≡ 200) × (zeros homes.old ≡ true) × (length homes.old ≡ 200) × (length numbers.old ≡ 1000) }
-    ensures { (take (length (cut 512 series.now)) partners.new ≡ found (cut 512 us.now) (cut 512 series.now) slot.0) × Homes slot.0 (cut 512 us.now) (cut 512 series.now) (length (cut 512 us.now)) homes.new × TradeNumbers (cut 512 us.now) (cut 512 series.now) numbers.new × (result ≡ length (visited (cut 512 us.now))) }
+// What the looks have found: of each series of the message the slot of its counterpart and its own, and of each used block the number of the message's trade
+// with its parties. 0 says that there is none.
+#[derive(Clone, Copy)]
+pub struct Looked {
+    pub partners: [u16; 200],
+    pub homes: [u16; 200],
+    pub numbers: [u16; 1000],
+    pub looks: usize,
+}
+
+// One pass over the used slots. Which trade of the message has a block's parties, and where the message's trades are placed, need not be sought again.
+pub fn look_all(us: &[u8], series: &[u8], slot: Slot) -> Looked
+    requires { (length us.now / 512 ≤ 1000) × Sent (cut 512 series.now) }
+    ensures { (take (length (cut 512 series.now)) result.partners ≡ found (cut 512 us.now) (cut 512 series.now) slot.0) × Homes slot.0 (cut 512 us.now) (cut 512 series.now) (length (cut 512 us.now)) result.homes × TradeNumbers (cut 512 us.now) (cut 512 series.now) result.numbers × (result.looks ≡ length (visited (cut 512 us.now))) }
 {
-    let own = slot.0;
-    let mut heads = no_heads();
-    let mut nexts = no_nexts();
-    link_own(series, IN_MESSAGE, By::Trade, &mut heads, &mut nexts);
-    let blocks = us.len() / 512;
-    let mut i = 0;
-    while i < blocks {
+    let buckets = link_own(series, IN_MESSAGE, By::Trade);
+    let mut partners = [0u16; 200];
+    let mut homes = [0u16; 200];
+    let mut numbers = [0u16; 1000];
+    let looks = us.len() / 512;
+    for i in 0..looks {
         let block = block_at(us, i);
-        let number = look(
-            Slot(i + 1),
-            block,
-            series,
-            &heads,
-            &nexts,
-            Slot(own),
-            partners,
-        );
-        note_home(Slot(i + 1), block, Slot(own), number, homes);
+        let number = look(Slot(i + 1), block, series, &buckets, slot, &mut partners);
+        note_home(Slot(i + 1), block, slot, number, &mut homes);
         numbers[i] = number as u16;
-        i += 1;
     }
-    i
+    Looked {
+        partners,
+        homes,
+        numbers,
+        looks,
+    }
 }

@@ -7,7 +7,7 @@ ghost use Rattle.paper.specs.Acceptance.{remarked};
 ghost use Rattle.paper.specs.Looks.{visited};
 ghost use Rattle.accept.specs.Steps.{Housed, touched_by, partner_by, Sides};
 
-use super::looking::look_all;
+use super::looking::{Looked, look_all};
 use index::wide;
 use layout::senders_slot;
 use layout::write::write_mark;
@@ -19,21 +19,21 @@ use slots::{block_at, is_series};
 fn is_touched(y: &[u8], own: Slot, number: usize) -> bool
     ensures { result ≡ touched_by own.0 number y.now }
 {
-    is_series(y) & ((senders_slot(y).0 == own.0) | (number != 0))
+    is_series(y) & ((senders_slot(y) == own) | (number != 0))
 }
 
 // The counterpart found for a trade of the sender; for the other side of a trade the sender's own, which need not be sought. An external schedule has none.
-fn partner_of(y: &[u8], own: Slot, number: usize, partners: &[u16; 200], homes: &[u16; 200]) -> Slot
+fn partner_of(y: &[u8], own: Slot, number: usize, looked: &Looked) -> Slot
     requires { number ≤ 200 }
-    ensures { result.0 ≡ partner_by own.0 number partners.now homes.now y.now }
+    ensures { result.0 ≡ partner_by own.0 number looked.now.partners looked.now.homes y.now }
 {
     if number == 0 {
         return Slot(0);
     }
-    if senders_slot(y).0 == own.0 {
-        return Slot(wide(partners[number - 1]));
+    if senders_slot(y) == own {
+        return Slot(wide(looked.partners[number - 1]));
     }
-    Slot(wide(homes[number - 1]))
+    Slot(wide(looked.homes[number - 1]))
 }
 
 // Only a touched block is written: any other keeps its bytes, its check too.
@@ -47,27 +47,16 @@ fn remark(us: &mut [u8], i: usize, n: usize, partner: Slot)
 }
 
 // A mark is worked out from kind, sender's slot, trade and quantities, which no mark changes: so it does not matter which is put right first.
-fn remark_each(
-    us: &mut [u8],
-    n: usize,
-    slot: Slot,
-    partners: &[u16; 200],
-    homes: &[u16; 200],
-    numbers: &[u16; 1000],
-)
-    requires { (n ≤ 100) × (length us.old / 512 ≤ 1000) × Sides slot.0 (cut 512 us.old) partners.now homes.now numbers.now }
+fn remark_each(us: &mut [u8], n: usize, slot: Slot, looked: &Looked)
+    requires { (n ≤ 100) × (length us.old / 512 ≤ 1000) × Sides slot.0 (cut 512 us.old) looked.now.partners looked.now.homes looked.now.numbers }
     ensures { cut 512 us.new ≡ map (remarked n slot.0 (cut 512 us.old)) (cut 512 us.old) }
 {
-    let own = slot.0;
-    let blocks = us.len() / 512;
-    let mut i = 0;
-    while i < blocks {
-        let number = wide(numbers[i]);
-        if is_touched(block_at(us, i), Slot(own), number) {
-            let partner = partner_of(block_at(us, i), Slot(own), number, partners, homes);
+    for i in 0..us.len() / 512 {
+        let number = wide(looked.numbers[i]);
+        if is_touched(block_at(us, i), slot, number) {
+            let partner = partner_of(block_at(us, i), slot, number, looked);
             remark(us, i, n, partner);
         }
-        i += 1;
     }
 }
 
@@ -76,18 +65,7 @@ pub fn remark_all(us: &mut [u8], n: usize, series: &[u8], slot: Slot) -> usize
     requires { (n ≤ 100) × (length us.old / 512 ≤ 1000) × Housed slot.0 (cut 512 us.old) (cut 512 series.now) }
     ensures { (cut 512 us.new ≡ map (remarked n slot.0 (cut 512 us.old)) (cut 512 us.old)) × (result ≡ length (visited (cut 512 us.old))) }
 {
-    let own = slot.0;
-    let mut partners = [0u16; 200];
-    let mut homes = [0u16; 200];
-    let mut numbers = [0u16; 1000];
-    let looked = look_all(
-        us,
-        series,
-        Slot(own),
-        &mut partners,
-        &mut homes,
-        &mut numbers,
-    );
-    remark_each(us, n, Slot(own), &partners, &homes, &numbers);
-    looked
+    let looked = look_all(us, series, slot);
+    remark_each(us, n, slot, &looked);
+    looked.looks
 }

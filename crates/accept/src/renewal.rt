@@ -1,4 +1,5 @@
 // "The sender block and changed series replace the stored ones".
+// Rows and buffers have a fixed length here, since the desk has no heap; 0 stands for no place, as in the book's own fields.
 ghost use Rattle.std.specs.Prelude.{◌≡◌, map, ◌/◌, ◌≤◌, length};
 ghost use Rattle.laws.specs.Lists.{place};
 ghost use Rattle.laws.specs.Cut.{cut};
@@ -49,7 +50,6 @@ fn renew(block: &mut [u8], kept: &[u8; 512], series: &[u8], slot: Slot, number: 
             return;
         }
         write_series(block, block_at(series, number - 1), slot);
-        return;
     }
 }
 
@@ -58,12 +58,9 @@ pub fn renew_all(us: &mut [u8], kept: &[u8; 512], series: &[u8], slot: Slot, num
     requires { (length us.old / 512 ≤ 1000) × Numbers (cut 512 us.old) (cut 512 series.now) numbers.now }
     ensures { cut 512 us.new ≡ map (renewed_with slot.0 kept.now (cut 512 series.now)) (cut 512 us.old) }
 {
-    let blocks = us.len() / 512;
-    let mut i = 0;
-    while i < blocks {
+    for i in 0..us.len() / 512 {
         let number = wide(numbers[i]);
         let start = 512 * i;
         renew(&mut us[start..start + 512], kept, series, slot, number);
-        i += 1;
     }
 }

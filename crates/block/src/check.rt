@@ -12,18 +12,18 @@ use super::numbers::{number_4, whole_4, write_4};
 fn thirty_one_times(x: u32) -> u32
     ensures { result ≡ (31 * x) % 4294967296 }
 {
-    let x2 = std::num::wrapping_add_u32(x, x);
-    let x4 = std::num::wrapping_add_u32(x2, x2);
-    let x8 = std::num::wrapping_add_u32(x4, x4);
-    let x16 = std::num::wrapping_add_u32(x8, x8);
-    let x32 = std::num::wrapping_add_u32(x16, x16);
-    std::num::wrapping_sub_u32(x32, x)
+    let x2 = x.wrapping_add(x);
+    let x4 = x2.wrapping_add(x2);
+    let x8 = x4.wrapping_add(x4);
+    let x16 = x8.wrapping_add(x8);
+    let x32 = x16.wrapping_add(x16);
+    x32.wrapping_sub(x)
 }
 
 pub fn check_step(c: u32, byte: u8) -> u32
     ensures { result ≡ check_step c byte }
 {
-    std::num::wrapping_add_u32(thirty_one_times(c), byte as u32)
+    thirty_one_times(c).wrapping_add(byte as u32)
 }
 
 // Four steps. The check waits for none of the four bytes' own sums, and a compiler makes one multiplication of doublings of doublings: each byte
@@ -34,11 +34,8 @@ fn check_four_bytes(c: u32, w: u8, x: u8, y: u8, z: u8) -> u32
     let four = thirty_one_times(thirty_one_times(thirty_one_times(thirty_one_times(c))));
     let three = thirty_one_times(thirty_one_times(thirty_one_times(w as u32)));
     let two = thirty_one_times(thirty_one_times(x as u32));
-    let one = std::num::wrapping_add_u32(thirty_one_times(y as u32), z as u32);
-    std::num::wrapping_add_u32(
-        four,
-        std::num::wrapping_add_u32(three, std::num::wrapping_add_u32(two, one)),
-    )
+    let one = thirty_one_times(y as u32).wrapping_add(z as u32);
+    four.wrapping_add(three.wrapping_add(two.wrapping_add(one)))
 }
 
 fn check_four_at(c: u32, s: &[u8], i: usize) -> u32
@@ -53,10 +50,8 @@ fn check_from(check: u32, s: &[u8]) -> u32
     ensures { result ≡ check_from check s.now }
 {
     let mut c = check;
-    let mut i = 0;
-    while i < s.len() {
-        c = check_step(c, s[i]);
-        i += 1;
+    for x in s {
+        c = check_step(c, *x);
     }
     c
 }
@@ -65,12 +60,10 @@ pub fn check_bytes(s: &[u8]) -> u32
     ensures { result ≡ check_from 0 s.now }
 {
     let mut c: u32 = 0;
-    let mut i = 0;
-    while 4 <= s.len() - i {
-        c = check_four_at(c, s, i);
-        i += 4;
+    for four in s.chunks_exact(4) {
+        c = check_four_at(c, four, 0);
     }
-    check_from(c, &s[i..])
+    check_from(c, s.chunks_exact(4).remainder())
 }
 
 // Bytes 0 to 507, or all there are of a shorter block.
@@ -105,13 +98,12 @@ fn four_right(s: &[u8]) -> bool
     let mut b: u32 = 0;
     let mut c: u32 = 0;
     let mut d: u32 = 0;
-    let mut i = 0;
-    while i < 508 {
+    for k in 0..127 {
+        let i = 4 * k;
         a = check_four_at(a, s, i);
         b = check_four_at(b, s, 512 + i);
         c = check_four_at(c, s, 1024 + i);
         d = check_four_at(d, s, 1536 + i);
-        i += 4;
     }
     (whole_4(s, 508) == a)
         & ((whole_4(s, 1020) == b) & ((whole_4(s, 1532) == c) & (whole_4(s, 2044) == d)))
@@ -121,13 +113,7 @@ fn four_right(s: &[u8]) -> bool
 fn checks_right_singly(s: &[u8]) -> bool
     ensures { result ≡ every check_right (cut 512 s.now) }
 {
-    let mut right = true;
-    let mut i = 0;
-    while 512 <= s.len() - i {
-        right = right & check_right(&s[i..i + 512]);
-        i += 512;
-    }
-    right
+    s.chunks_exact(512).all(|block| check_right(block))
 }
 
 // The check of every block, four side by side as long as there are four.
@@ -135,10 +121,8 @@ pub fn checks_right(s: &[u8]) -> bool
     ensures { result ≡ every check_right (cut 512 s.now) }
 {
     let mut right = true;
-    let mut i = 0;
-    while 2048 <= s.len() - i {
-        right = right & four_right(&s[i..i + 2048]);
-        i += 2048;
+    for four in s.chunks_exact(2048) {
+        right = right & four_right(four);
     }
-    right & checks_right_singly(&s[i..])
+    right & checks_right_singly(s.chunks_exact(2048).remainder())
 }

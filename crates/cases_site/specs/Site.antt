@@ -1,5 +1,6 @@
 -- What a row of the check on site asks of the definitions, and whether the answer is the one that the row expects.
 use Rattle.std.specs.Prelude.{◌++◌, ◌+◌}
+use Rattle.std.specs.Option.{is_some, unwrap_or}
 use Rattle.laws.specs.Base.{Bool, true, cond, ℕ, zero, suc, length, replicate}
 use Rattle.laws.specs.Tests.{◌and◌, ◌or◌, is, less}
 use Rattle.laws.specs.Lists.{same}
@@ -18,7 +19,7 @@ use Rattle.paper.specs.Conversion.{conversion_number, converted}
 use Rattle.paper.specs.Rights.{enter_number, entered}
 use Rattle.paper.specs.Listing.{text, listing}
 use Rattle.desk_text.specs.Put.{within}
-use Rattle.desk_text.specs.Numbers.{number_read, minute_read}
+use Rattle.desk_text.specs.Numbers.{number_read, minute_of, minute_read}
 use Rattle.desk_text.specs.Words.{first_piece, past_piece, piece_numbered}
 use Rattle.desk_text.specs.Arguments.{command_number, word_value}
 use Rattle.listing_text.specs.Text.{text_length, text_into}
@@ -33,8 +34,9 @@ use Rattle.site_leaves.specs.Leaves.{number_in, block_with}
 unfoldable pub opening : (lead : Bytes) → Opening
 opening lead = naming_none 96 (word_value (number_in lead)) day area receiver
 
+-- the day's start where it says none
 unfoldable pub minute_in : (minute : Bytes) → ℕ
-minute_in minute = (minute_read minute).minute.0
+minute_in minute = (unwrap_or (minute_read minute) (minute_of 10080)).0
 
 -- what is laid at the front of a buffer
 unfoldable pub laid_first : TextRead × Bytes → Bytes
@@ -98,7 +100,7 @@ stated word command read = read and (less 0 command or same word (text "check"))
 
 unfoldable pub row_right : (book row : Bytes) → Bool
 row_right book row =
-    is (number_read (cell 3 row)).value (came book (command_of row) (cell 1 row) (cell 2 row)) and stated (cell 0 row) (command_of row) (number_read (cell 3 row)).read
+    is (number_in (cell 3 row)) (came book (command_of row) (cell 1 row) (cell 2 row)) and stated (cell 0 row) (command_of row) (is_some (number_read (cell 3 row)))
 
 unfoldable pub row_book : (book row : Bytes) → Bytes
 row_book book row = book_after book (command_of row) (cell 1 row) (cell 2 row)

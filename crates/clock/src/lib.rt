@@ -22,7 +22,7 @@ fn day_state(d: &[u8]) -> DayState
     }
 }
 
-// 22 if the minute is lower than the kept one or out of range; an equal one is accepted.
+// ClockAnswer is the C interface's, and a refusal its number: 22 if the minute is lower than the kept one or out of range; an equal one is accepted.
 pub fn advanced(day: DayState, minute: Minute) -> ClockAnswer
     ensures { result ≡ advanced day minute.0 }
 {
@@ -35,9 +35,8 @@ pub fn advanced(day: DayState, minute: Minute) -> ClockAnswer
     ClockAnswer {
         number: 0,
         state: DayState {
-            n: day.n,
-            lead: day.lead,
             clock: minute,
+            ..day
         },
     }
 }

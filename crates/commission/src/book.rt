@@ -1,4 +1,5 @@
 // What the desk answers on a book of the check on site: area 10YAT-APG------L, receiver 14XAT-APCS-----Q, day 20190131, n 96.
+// Buffers have a fixed length here, since the desk has no heap.
 ghost use Rattle.std.specs.Prelude.{◌≡◌, ◌++◌};
 ghost use Rattle.laws.specs.Lists.{same};
 ghost use Rattle.paper.specs.Layout.{version};
@@ -19,7 +20,7 @@ use desk_text::arguments::word_value;
 use desk_text::numbers::{minute_read, number_read};
 use desk_text::put::put;
 use field::part_of;
-use paper::Position;
+use paper::{Minute, Position};
 use site_leaves::line;
 
 pub fn opened(book: &mut [u8], lead: &[u8]) -> u32
@@ -28,7 +29,7 @@ pub fn opened(book: &mut [u8], lead: &[u8]) -> u32
     opening::open(
         book,
         96,
-        word_value(number_read(lead).value),
+        word_value(number_read(lead).unwrap_or(0)),
         b"20190131",
         b"10YAT-APG------L",
         b"14XAT-APCS-----Q",
@@ -39,7 +40,7 @@ pub fn opened(book: &mut [u8], lead: &[u8]) -> u32
 pub fn clock(book: &mut [u8], minute: &[u8]) -> u32
     ensures { (result ≡ (clock_answer book.old (minute_in minute.now)).number) × (book.new ≡ clock_moved book.old (minute_in minute.now)) }
 {
-    clock::clock(book, minute_read(minute).minute).number
+    clock::clock(book, minute_read(minute).unwrap_or(Minute(10080))).number
 }
 
 // 25 where the position is open, 26 where it is closed, as long as the book has no series.
@@ -50,7 +51,7 @@ pub fn final_number(book: &[u8], position: &[u8]) -> u32
         book,
         b"14XBILANZGR-1--F",
         b"14XBG-EMPFANG--0",
-        Position(number_read(position).value as usize),
+        Position(number_read(position).unwrap_or(0) as usize),
     )
     .number
 }

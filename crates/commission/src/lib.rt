@@ -1,6 +1,7 @@
 // The check on site: document 01's worked cases ("Both sides of each edge") against the functions of this very program. Each case is a line with what was
 // expected and what came; the last line says whether this desk may be put into service. By the definitions every case gives what is expected, and every
 // function here promises so: a case that comes otherwise tells of the machine, or of what made the program out of its text.
+// Buffers have a fixed length here, since the desk has no heap.
 #![tactic(auto)]
 
 ghost use Rattle.std.specs.Prelude.{◌≡◌, true};
@@ -40,7 +41,7 @@ fn leaves_right(rt: &impl Print, book: &mut [u8]) -> bool
         kw|||30|number of quantity text \"\";\
         kw|-0||31|number of quantity text \"-0\";",
     );
-    line::both(line::both(a, b), line::both(c, leaves::printed(rt)))
+    line::all(&[a, b, c, leaves::printed(rt)])
 }
 
 fn checks_right(rt: &impl Print, book: &mut [u8]) -> bool
@@ -151,10 +152,7 @@ fn days_right(rt: &impl Print) -> bool
     let b = versions_right(rt);
     let c = closed_right(rt);
     let d = rights_right(rt);
-    line::both(
-        line::both(line::both(a, b), line::both(c, d)),
-        listed_right(rt),
-    )
+    line::all(&[a, b, c, d, listed_right(rt)])
 }
 
 // Every case is run, whatever an earlier one gave.
@@ -164,7 +162,7 @@ fn all_right(rt: &impl Print) -> bool
     let mut no_book = [0u8; 1];
     let a = leaves_right(rt, &mut no_book);
     let b = checks_right(rt, &mut no_book);
-    line::both(line::both(a, b), days_right(rt))
+    line::all(&[a, b, days_right(rt)])
 }
 
 pub fn run(rt: &impl Print) {

@@ -7,7 +7,8 @@ ghost use Rattle.paper.specs.Layout.{area};
 ghost use Rattle.paper.specs.Conversion.{conversion_number, converted_block, used_converted, converted};
 ghost use Rattle.index.specs.Linked.{series_in, Links};
 
-use index::{link_series, no_heads, no_nexts};
+use index::buckets::Buckets;
+use index::link_series;
 use layout::n_of;
 use layout::write::write_mark;
 use marks::mark_in;
@@ -16,15 +17,8 @@ use slots::{area_of, block_at, is_sender, is_series, used_count};
 use sound::old_sound;
 
 // A sender's nets or a series' mark, as the plain run would work them out; `ours` is the day block's area. A right has neither.
-fn convert_block(
-    us: &mut [u8],
-    i: usize,
-    n: usize,
-    ours: &[u8],
-    heads: &[u16; 1024],
-    nexts: &[u16; 1000],
-)
-    requires { (512 * i + 512 ≤ length us.old) × (n ≤ 100) × (length us.old / 512 ≤ 1000) × Links series_in (cut 512 us.old) 0 heads.now nexts.now }
+fn convert_block(us: &mut [u8], i: usize, n: usize, ours: &[u8], buckets: &Buckets)
+    requires { (512 * i + 512 ≤ length us.old) × (n ≤ 100) × (length us.old / 512 ≤ 1000) × Links series_in (cut 512 us.old) 0 buckets.now.heads buckets.now.nexts }
     ensures { cut 512 us.new ≡ set (cut 512 us.old) i (converted_block n ours.now (cut 512 us.old) (get_or (cut 512 us.old) i [])) }
 {
     let start = 512 * i;
@@ -34,34 +28,21 @@ fn convert_block(
         return;
     }
     if is_series(block_at(us, i)) {
-        let m = mark_in(n, us, block_at(us, i), heads, nexts);
+        let m = mark_in(n, us, block_at(us, i), buckets);
         write_mark(&mut us[start..start + 512], &m);
     }
 }
 
-// Marks and nets are worked out from kinds, senders, sender's slots, pairs and the series' quantities, which none of them changes: so it does not
-// matter which is written first, and the links stay true.
-fn convert_each(us: &mut [u8], n: usize, ours: &[u8], heads: &[u16; 1024], nexts: &[u16; 1000])
-    requires { (n ≤ 100) × (length us.old / 512 ≤ 1000) × Links series_in (cut 512 us.old) 0 heads.now nexts.now }
-    ensures { cut 512 us.new ≡ used_converted n ours.now (cut 512 us.old) }
-{
-    let blocks = us.len() / 512;
-    let mut i = 0;
-    while i < blocks {
-        convert_block(us, i, n, ours, heads, nexts);
-        i += 1;
-    }
-}
-
-// The series are linked once, for all searches of counterparts.
+// The series are linked once, for all searches of counterparts. Marks and nets are worked out from kinds, senders, sender's slots, pairs and the series'
+// quantities, which none of them changes: so it does not matter which is written first, and the links stay true.
 fn convert_used(us: &mut [u8], n: usize, ours: &[u8])
     requires { (n ≤ 100) × (length us.old / 512 ≤ 1000) }
     ensures { cut 512 us.new ≡ used_converted n ours.now (cut 512 us.old) }
 {
-    let mut heads = no_heads();
-    let mut nexts = no_nexts();
-    link_series(us, &mut heads, &mut nexts);
-    convert_each(us, n, ours, &heads, &nexts);
+    let buckets = link_series(us);
+    for i in 0..us.len() / 512 {
+        convert_block(us, i, n, ours, &buckets);
+    }
 }
 
 // Nothing is written before the old layout is found sound; the day block and the free slots are not written at all.

@@ -1,4 +1,5 @@
 // The arguments that the program is started with, as words: one behind the other, a zero byte after each.
+// Buffers have a fixed length here, since the desk has no heap.
 ghost use Rattle.std.specs.Prelude.{◌≤◌};
 
 use desk_text::put::put;
@@ -16,10 +17,8 @@ fn take(rt: &impl Env, i: usize, words: &mut [u8], at: usize) -> usize {
 // No command has more than eleven. What is missing is an empty word.
 pub fn take_all(rt: &impl Env, words: &mut [u8]) {
     let mut at = 0;
-    let mut i = 0;
-    while i < 11 {
+    for i in 0..11 {
         at = take(rt, i, words, at);
-        i += 1;
     }
 }
 
@@ -32,12 +31,5 @@ fn is_given(rt: &impl Env, i: usize) -> bool {
 pub fn count(rt: &impl Env) -> usize
     ensures { result ≤ 12 }
 {
-    let mut n = 0;
-    while n < 12 {
-        if !is_given(rt, n) {
-            return n;
-        }
-        n += 1;
-    }
-    n
+    (0..12).position(|i| !is_given(rt, i)).unwrap_or(12)
 }

@@ -1,4 +1,5 @@
 // The technician's program for a day book in a file. Every answer is one line, but for a listing and the settled positions (docs/DESK.md).
+// Buffers have a fixed length here, since the desk has no heap.
 #![tactic(auto)]
 
 mod arguments;
@@ -6,6 +7,7 @@ mod arguments;
 use desk_answers::words::opening_words;
 use desk_answers::{Change, Numbers, Question};
 use desk_files::{ask, ask_alone, change, say};
+use desk_text::commands::Command;
 use desk_text::numbers::{minute_read, number_read};
 use desk_text::words::word;
 use std::rt::{Env, Files};
@@ -17,104 +19,91 @@ fn usage(rt: &impl Print) {
     );
 }
 
+fn numbers_of(words: &[u8]) -> Option<Numbers> {
+    Some(Numbers {
+        blocks: number_read(word(words, 3))?,
+        n: number_read(word(words, 4))?,
+        lead: number_read(word(words, 5))?,
+    })
+}
+
 fn open<R: Files + Print>(rt: &R, words: &[u8]) {
-    let blocks = number_read(word(words, 3));
-    let n = number_read(word(words, 4));
-    let lead = number_read(word(words, 5));
-    if !(blocks.read & n.read & lead.read) {
-        say(
+    match numbers_of(words) {
+        Some(numbers) => change(rt, Change::Open(numbers), word(words, 2), words),
+        None => say(
             rt,
             b"wrong use: BLOCKS, N and LEAD are numbers of one to five digits\n",
-        );
-        return;
+        ),
     }
-    let numbers = Numbers {
-        blocks: blocks.value,
-        n: n.value,
-        lead: lead.value,
-    };
-    change(rt, Change::Open(numbers), word(words, 2), words);
 }
 
 fn clock<R: Files + Print>(rt: &R, words: &[u8]) {
-    let read = minute_read(word(words, 3));
-    if !read.read {
-        say(
+    match minute_read(word(words, 3)) {
+        Some(minute) => change(rt, Change::Clock(minute), word(words, 2), b""),
+        None => say(
             rt,
             b"wrong use: MINUTE is a number of one to five digits, with a minus before the day's start\n",
-        );
-        return;
+        ),
     }
-    let minute = read.minute;
-    change(rt, Change::Clock(minute), word(words, 2), b"");
 }
 
-fn wrong_position(rt: &impl Print) {
-    say(
-        rt,
-        b"wrong use: POSITION is a number of one to five digits\n",
-    );
-}
-
-fn final_value<R: Files + Print>(rt: &R, words: &[u8]) {
-    let position = number_read(word(words, 5));
-    if !position.read {
-        wrong_position(rt);
-        return;
+// What is asked of a position, which is word k of the command.
+fn ask_at<R: Files + Print, F: FnOnce(usize) -> Question + Drop>(
+    rt: &R,
+    k: usize,
+    words: &[u8],
+    question: F,
+)
+    requires { F.IsAlwaysCallable question }
+{
+    match number_read(word(words, k)) {
+        Some(position) => ask(rt, question(position as usize), words),
+        None => say(
+            rt,
+            b"wrong use: POSITION is a number of one to five digits\n",
+        ),
     }
-    ask(rt, Question::Final(position.value as usize), words);
 }
 
-fn settle<R: Files + Print>(rt: &R, words: &[u8]) {
-    let position = number_read(word(words, 3));
-    if !position.read {
-        wrong_position(rt);
-        return;
-    }
-    ask(rt, Question::Settle(position.value as usize), words);
-}
-
-// How many arguments the program is started with for a command, its own name among them; never 0, which stands for no command.
-fn arguments_of(command: usize, words: &[u8]) -> usize {
+// How many arguments the program is started with for a command, its own name among them.
+fn arguments_of(command: Command, words: &[u8]) -> usize {
     match command {
-        1 => opening_words(words),
-        2 | 3 | 9 | 14 | 15 => 4,
-        4 | 5 => 5,
-        6 => 6,
-        7 | 8 | 10 | 11 | 13 => 3,
-        12 => 2,
-        _ => 0,
+        Command::Open => opening_words(words),
+        Command::Commission => 2,
+        Command::Plain | Command::List | Command::Eic | Command::Kw | Command::Convert => 3,
+        Command::Clock | Command::Submit | Command::Message | Command::Right | Command::Settle => 4,
+        Command::Mark | Command::Block => 5,
+        Command::Final => 6,
     }
 }
 
-fn run<R: Files + Print>(rt: &R, command: usize, words: &[u8]) {
+fn run<R: Files + Print>(rt: &R, command: Command, words: &[u8]) {
     match command {
-        1 => open(rt, words),
-        2 => clock(rt, words),
-        3 => desk_files::messages::submit(rt, words),
-        4 => ask(rt, Question::Mark, words),
-        5 => ask(rt, Question::Block, words),
-        6 => final_value(rt, words),
-        7 => ask(rt, Question::Plain, words),
-        8 => ask(rt, Question::List, words),
-        9 => desk_files::messages::message(rt, words),
-        10 => ask_alone(rt, Question::Eic, words),
-        11 => ask_alone(rt, Question::Kw, words),
-        12 => commission::run(rt),
-        13 => change(rt, Change::Convert, word(words, 2), b""),
-        14 => desk_files::messages::right(rt, words),
-        15 => settle(rt, words),
-        _ => usage(rt),
+        Command::Open => open(rt, words),
+        Command::Clock => clock(rt, words),
+        Command::Submit => desk_files::messages::submit(rt, words),
+        Command::Mark => ask(rt, Question::Mark, words),
+        Command::Block => ask(rt, Question::Block, words),
+        Command::Final => ask_at(rt, 5, words, Question::Final),
+        Command::Plain => ask(rt, Question::Plain, words),
+        Command::List => ask(rt, Question::List, words),
+        Command::Message => desk_files::messages::message(rt, words),
+        Command::Eic => ask_alone(rt, Question::Eic, words),
+        Command::Kw => ask_alone(rt, Question::Kw, words),
+        Command::Commission => commission::run(rt),
+        Command::Convert => change(rt, Change::Convert, word(words, 2), b""),
+        Command::Right => desk_files::messages::right(rt, words),
+        Command::Settle => ask_at(rt, 3, words, Question::Settle),
     }
 }
 
 fn command<R: Files + Env + Print>(rt: &R, words: &[u8]) {
-    let command = desk_text::arguments::command_number(word(words, 1));
-    if arguments::count(rt) != arguments_of(command, words) {
-        usage(rt);
-        return;
+    match Command::named(word(words, 1)) {
+        Some(command) if arguments::count(rt) == arguments_of(command, words) => {
+            run(rt, command, words)
+        }
+        _ => usage(rt),
     }
-    run(rt, command, words);
 }
 
 // Room for eleven arguments of 4,096 bytes, with the zero byte behind each.

@@ -1,13 +1,14 @@
 // Files read whole, and replaced whole or not at all: the one way of every change and of every reading.
+// Buffers have a fixed length here, since the desk has no heap.
 #![tactic(auto)]
 
-ghost use Rattle.std.specs.Prelude.{◌≡◌};
+ghost use Rattle.std.specs.Prelude.{◌≡◌, ◌<◌, ◌^◌};
 
 use desk_answers::words::replaces;
 use desk_answers::{Change, Question, Told};
 use desk_text::arguments::{book_length, folder_length, put_beside};
-use desk_text::words::{piece_numbered, word};
-use field::{part_of, within};
+use desk_text::words::word;
+use field::part_of;
 use reads::read_full;
 use std::fs::{OpenFile, OpenOptions};
 use std::io::{Error, ErrorKind, Read, Write};
@@ -16,33 +17,54 @@ use std::{fs, io};
 
 pub mod messages;
 
-// The length of what is not loaded: no room has as many bytes.
-pub const NOT_LOADED: usize = usize::MAX;
+// What stands in the way.
+#[derive(Clone, Copy)]
+pub enum Fault {
+    Missing,
+    NotOpened,
+    NotRead,
+    NoBook,
+    NoMessage,
+    NoText,
+    AnotherDesk,
+    NotMade,
+    NotWritten,
+    NotNamed,
+    NotKept,
+    IsThere,
+}
 
-// What stands in the way, by the piece of `failed` that says it.
-const MISSING: usize = 0;
+impl Fault {
+    fn text(self) -> &'static [u8] {
+        match self {
+            Fault::Missing => b": there is no such file\n",
+            Fault::NotOpened => b": the file cannot be opened\n",
+            Fault::NotRead => b": the file cannot be read\n",
+            Fault::NoBook => b": the file is longer than a book of 1001 blocks\n",
+            Fault::NoMessage => b": the file is longer than a message of 201 blocks\n",
+            Fault::NoText => b": the file is longer than the text of any message\n",
+            Fault::AnotherDesk => {
+                b": the file is there; another desk changes the book, or one was cut off and the file is to be removed\n"
+            }
+            Fault::NotMade => b": the file cannot be made\n",
+            Fault::NotWritten => b": the new book cannot be written\n",
+            Fault::NotNamed => b": the new book cannot take this name\n",
+            Fault::NotKept => {
+                b": the new book has this name, but a power cut may bring back what stood here before\n"
+            }
+            Fault::IsThere => {
+                b": the file is there; the word replace at the end of the command replaces it\n"
+            }
+        }
+    }
+}
 
-const NOT_OPENED: usize = 1;
-
-const NOT_READ: usize = 2;
-
-const NO_BOOK: usize = 3;
-
-pub const NO_MESSAGE: usize = 4;
-
-pub const NO_TEXT: usize = 5;
-
-const ANOTHER_DESK: usize = 6;
-
-const NOT_MADE: usize = 7;
-
-const NOT_WRITTEN: usize = 8;
-
-const NOT_NAMED: usize = 9;
-
-const NOT_KEPT: usize = 10;
-
-const IS_THERE: usize = 11;
+// A fault, and the file that it is one of.
+#[derive(Clone, Copy)]
+pub struct Failure<'a> {
+    path: &'a [u8],
+    fault: Fault,
+}
 
 // What cannot be written is not said.
 pub fn say(rt: &impl Print, text: &[u8]) {
@@ -50,35 +72,21 @@ pub fn say(rt: &impl Print, text: &[u8]) {
 }
 
 // A line on what stands in the way, which is no answer of document 01's.
-fn failed(rt: &impl Print, path: &[u8], why: usize) -> usize {
+fn say_fault(rt: &impl Print, path: &[u8], fault: Fault) {
     say(rt, b"failed: ");
     say(rt, path);
-    let line = piece_numbered(
-        b": there is no such file\n|\
-            : the file cannot be opened\n|\
-            : the file cannot be read\n|\
-            : the file is longer than a book of 1001 blocks\n|\
-            : the file is longer than a message of 201 blocks\n|\
-            : the file is longer than the text of any message\n|\
-            : the file is there; another desk changes the book, or one was cut off and the file is to be removed\n|\
-            : the file cannot be made\n|\
-            : the new book cannot be written\n|\
-            : the new book cannot take this name\n|\
-            : the new book has this name, but a power cut may bring back what stood here before\n|\
-            : the file is there; the word replace at the end of the command replaces it\n",
-        b'|',
-        why,
-    );
-    say(rt, line);
-    NOT_LOADED
+    say(rt, fault.text());
+}
+
+fn say_failure(rt: &impl Print, outcome: Result<(), Failure>) {
+    if let Err(failure) = outcome {
+        say_fault(rt, failure.path, failure.fault);
+    }
 }
 
 // The system's files have their paths as text: bytes that are no UTF-8 name no file that can be opened or made.
 fn path_text(path: &[u8]) -> io::Result<&str> {
-    match str::from_utf8(path) {
-        Ok(text) => Ok(text),
-        Err(_) => Err(Error::from(ErrorKind::InvalidInput)),
-    }
+    str::from_utf8(path).map_err(|_| Error::from(ErrorKind::InvalidInput))
 }
 
 fn open<R: Files>(rt: &R, path: &[u8]) -> io::Result<R::File> {
@@ -104,69 +112,70 @@ fn rename(rt: &impl Files, from: &[u8], to: &[u8]) -> io::Result<()> {
     fs::rename(rt, path_text(from)?, path_text(to)?)
 }
 
-fn not_opened(rt: &impl Print, path: &[u8], error: &Error) -> usize {
-    if error.kind() == ErrorKind::NotFound {
-        return failed(rt, path, MISSING);
+fn not_opened(error: Error) -> Fault {
+    match error.kind() {
+        ErrorKind::NotFound => Fault::Missing,
+        _ => Fault::NotOpened,
     }
-    failed(rt, path, NOT_OPENED)
 }
 
-// The whole file into the room, and its length, or a line that says why not. One byte more is asked for: it tells a file that is too long.
-fn load_from(
-    rt: &impl Print,
-    file: &mut impl Read,
-    path: &[u8],
-    room: &mut [u8],
-    too_long: usize,
-) -> usize {
-    let length = match read_full(file, room) {
-        Ok(n) => n,
-        Err(_) => return failed(rt, path, NOT_READ),
-    };
+// The whole file into the room, and its length. One byte more is asked for: it tells a file that is too long.
+fn load_from(file: &mut impl Read, room: &mut [u8], too_long: Fault) -> Result<usize, Fault> {
+    let length = read_full(file, room).map_err(|_| Fault::NotRead)?;
     let mut byte = [0u8; 1];
     match file.read(&mut byte) {
-        Ok(0) => length,
-        Ok(_) => failed(rt, path, too_long),
-        Err(_) => failed(rt, path, NOT_READ),
+        Ok(0) => Ok(length),
+        Ok(_) => Err(too_long),
+        Err(_) => Err(Fault::NotRead),
     }
 }
 
-fn load<R: Files + Print>(rt: &R, path: &[u8], room: &mut [u8], too_long: usize) -> usize {
-    match open(rt, path) {
-        Ok(mut file) => load_from(rt, &mut file, path, room, too_long),
-        Err(e) => not_opened(rt, path, &e),
-    }
+fn load(rt: &impl Files, path: &[u8], room: &mut [u8], too_long: Fault) -> Result<usize, Fault> {
+    let mut file = open(rt, path).map_err(not_opened)?;
+    load_from(&mut file, room, too_long)
 }
 
-// The file that a word of the command names.
-pub fn load_word<R: Files + Print>(
+// A file read into room of N bytes and handed on, or a line that says why not.
+pub fn with_file<const N: usize, R: Files + Print, F: FnOnce(&[u8]) + Drop>(
     rt: &R,
-    words: &[u8],
-    k: usize,
-    room: &mut [u8],
-    too_long: usize,
-) -> usize {
-    load(rt, word(words, k), room, too_long)
+    path: &[u8],
+    too_long: Fault,
+    then: F,
+)
+    requires fits { N < 2 ^ 63 }
+    requires callable { F.IsAlwaysCallable then }
+{
+    let mut room = [0u8; N];
+    match load(rt, path, &mut room, too_long) {
+        Ok(k) => then(part_of(&room, 0, k)),
+        Err(fault) => say_fault(rt, path, fault),
+    }
 }
 
 // ---- a change
 
-// Made before the book is read, and only where it is not there yet: so no two desks change one book at a time.
-fn begin<R: Files + Print>(rt: &R, name: &[u8]) -> Option<R::File> {
-    match create(rt, name) {
-        Ok(file) => Some(file),
-        Err(e) => {
-            not_begun(rt, name, &e);
-            None
-        }
+// The name of the file beside another, handed on. A name that the buffer has no room for fills it, and is too long for the system.
+fn with_beside<F: FnOnce(&[u8])>(path: &[u8], then: F)
+    requires { F.IsAlwaysCallable then }
+{
+    let mut name = [0u8; 4096];
+    let end = put_beside(&mut name, path);
+    then(part_of(&name, 0, end));
+}
+
+fn not_begun(error: Error) -> Fault {
+    match error.kind() {
+        ErrorKind::AlreadyExists => Fault::AnotherDesk,
+        _ => Fault::NotMade,
     }
 }
 
-fn not_begun(rt: &impl Print, name: &[u8], error: &Error) -> usize {
-    if error.kind() == ErrorKind::AlreadyExists {
-        return failed(rt, name, ANOTHER_DESK);
-    }
-    failed(rt, name, NOT_MADE)
+// Made before the book is read, and only where it is not there yet: so no two desks change one book at a time.
+fn begin<'a, R: Files>(rt: &R, name: &'a [u8]) -> Result<R::File, Failure<'a>> {
+    create(rt, name).map_err(|e| Failure {
+        path: name,
+        fault: not_begun(e),
+    })
 }
 
 // Nothing is changed.
@@ -176,188 +185,179 @@ fn abandon<R: Files>(rt: &R, file: R::File, name: &[u8]) {
 }
 
 // All of the book reaches the disk. What is closed behind that has nothing left to lose.
-fn written<F: Write + OpenFile + Drop>(file: F, book: &[u8]) -> bool {
+fn write_whole<F: Write + OpenFile + Drop>(file: F, book: &[u8]) -> io::Result<()> {
     let mut file = file;
-    let all = file.write_all(book).is_ok();
-    all & file.sync_all().is_ok()
+    file.write_all(book)?;
+    file.sync_all()
 }
 
 fn open_folder<R: Files>(rt: &R, path: &[u8]) -> io::Result<R::File> {
-    let k = folder_length(path);
-    if k == 0 {
-        return open(rt, b".");
+    match folder_length(path) {
+        0 => open(rt, b"."),
+        k => open(rt, &path[..k]),
     }
-    open(rt, part_of(path, 0, k))
 }
 
 // A name outlasts a power cut only once its folder has reached the disk.
-fn name_synced<R: Files>(rt: &R, path: &[u8]) -> bool {
-    match open_folder(rt, path) {
-        Ok(folder) => folder.sync_all().is_ok(),
-        Err(_) => false,
-    }
+fn sync_name<R: Files>(rt: &R, path: &[u8]) -> io::Result<()> {
+    open_folder(rt, path)?.sync_all()
 }
 
-fn not_replaced<R: Files + Print>(rt: &R, name: &[u8], path: &[u8], why: usize) -> bool {
-    failed(rt, path, why);
-    remove(rt, name);
-    false
-}
-
-// The new book takes the old one's name in one step; false, and the old book stays, where it can't. No call but one whose number is 0 has a book to keep.
-fn replace<R: Files + Print>(
+fn write_and_name<'a, R: Files>(
     rt: &R,
     file: R::File,
-    name: &[u8],
-    path: &[u8],
+    name: &'a [u8],
+    path: &'a [u8],
+    book: &[u8],
+) -> Result<(), Failure<'a>> {
+    write_whole(file, book).map_err(|_| Failure {
+        path: name,
+        fault: Fault::NotWritten,
+    })?;
+    rename(rt, name, path).map_err(|_| Failure {
+        path,
+        fault: Fault::NotNamed,
+    })
+}
+
+// The new book takes the old one's name in one step; where it can't, the old book stays. No call but one whose number is 0 has a book to keep.
+fn replace<'a, R: Files>(
+    rt: &R,
+    file: R::File,
+    name: &'a [u8],
+    path: &'a [u8],
     book: &[u8],
     number: usize,
-) -> bool
+) -> Result<(), Failure<'a>>
     requires { number ≡ 0 }
 {
-    if !written(file, book) {
-        return not_replaced(rt, name, name, NOT_WRITTEN);
+    if let Err(failure) = write_and_name(rt, file, name, path, book) {
+        remove(rt, name);
+        return Err(failure);
     }
-    if rename(rt, name, path).is_err() {
-        return not_replaced(rt, name, path, NOT_NAMED);
-    }
-    if !name_synced(rt, path) {
-        failed(rt, path, NOT_KEPT);
-        return false;
-    }
-    true
+    sync_name(rt, path).map_err(|_| Failure {
+        path,
+        fault: Fault::NotKept,
+    })
 }
 
 // An acceptance is told once the new book has its name, a refusal once the old one is left.
-fn settle<R: Files + Print>(
+fn settle<'a, R: Files + Print>(
     rt: &R,
     file: R::File,
-    name: &[u8],
-    path: &[u8],
+    name: &'a [u8],
+    path: &'a [u8],
     told: Told,
     book: &[u8],
     line: &[u8],
-) {
-    let k = told.length;
+) -> Result<(), Failure<'a>> {
     let number = told.number as usize;
     if number != 0 {
         abandon(rt, file, name);
-        say(rt, part_of(line, 0, k));
-        return;
+    } else {
+        replace(rt, file, name, path, book, number)?;
     }
-    if replace(rt, file, name, path, book, number) {
-        say(rt, part_of(line, 0, k));
-    }
+    say(rt, part_of(line, 0, told.length));
+    Ok(())
 }
 
 // The call runs on the book in its room, and what it says decides whether the book is kept.
-fn run<R: Files + Print>(
+fn run<'a, R: Files + Print>(
     rt: &R,
     what: Change,
     file: R::File,
-    name: &[u8],
-    path: &[u8],
+    name: &'a [u8],
+    path: &'a [u8],
     book: &mut [u8],
     given: &[u8],
-) {
+) -> Result<(), Failure<'a>> {
     let mut line = [0u8; 256];
     let told = desk_answers::changes::change(what, book, given, &mut line);
-    settle(rt, file, name, path, told, book, &line);
+    settle(rt, file, name, path, told, book, &line)
 }
 
-fn room_of_new<R: Files + Print>(rt: &R, blocks: u32, path: &[u8], words: &[u8]) -> usize {
+fn room_of_new(rt: &impl Files, blocks: u32, path: &[u8], words: &[u8]) -> Result<usize, Fault> {
     if replaces(words) {
-        return book_length(blocks);
+        return Ok(book_length(blocks));
     }
-    match open(rt, path) {
-        Ok(_) => failed(rt, path, IS_THERE),
-        Err(e) => room_where_none(rt, blocks, path, &e),
+    match open(rt, path).map_err(not_opened) {
+        Ok(_) => Err(Fault::IsThere),
+        Err(Fault::Missing) => Ok(book_length(blocks)),
+        Err(fault) => Err(fault),
     }
-}
-
-fn room_where_none(rt: &impl Print, blocks: u32, path: &[u8], error: &Error) -> usize {
-    if error.kind() == ErrorKind::NotFound {
-        return book_length(blocks);
-    }
-    failed(rt, path, NOT_OPENED)
 }
 
 // An opening does not look at what stood in the file before.
-fn room_for<R: Files + Print>(
-    rt: &R,
+fn room_for(
+    rt: &impl Files,
     what: &Change,
     path: &[u8],
     room: &mut [u8],
     given: &[u8],
-) -> usize {
+) -> Result<usize, Fault> {
     match what {
         Change::Open(numbers) => room_of_new(rt, numbers.blocks, path, given),
-        _ => load(rt, path, room, NO_BOOK),
+        _ => load(rt, path, room, Fault::NoBook),
     }
 }
 
-fn change_in<R: Files + Print>(
+fn change_in<'a, R: Files + Print>(
     rt: &R,
     what: Change,
     file: R::File,
-    name: &[u8],
-    path: &[u8],
+    name: &'a [u8],
+    path: &'a [u8],
     room: &mut [u8],
     given: &[u8],
-) {
-    let length = room_for(rt, &what, path, room, given);
-    if length == NOT_LOADED {
-        abandon(rt, file, name);
-        return;
-    }
-    let k = within(length, room);
-    run(rt, what, file, name, path, &mut room[..k], given);
-}
-
-fn change_beside<R: Files + Print>(rt: &R, what: Change, name: &[u8], path: &[u8], given: &[u8]) {
-    if let Some(file) = begin(rt, name) {
-        let mut room = [0u8; 512512];
-        change_in(rt, what, file, name, path, &mut room, given);
+) -> Result<(), Failure<'a>> {
+    match room_for(rt, &what, path, room, given) {
+        Ok(length) => {
+            let k = length.min(room.len());
+            run(rt, what, file, name, path, &mut room[..k], given)
+        }
+        Err(fault) => {
+            abandon(rt, file, name);
+            Err(Failure { path, fault })
+        }
     }
 }
 
-// The one way of every change: a file is made beside the book, the book loaded, the call run, the new book kept or not, and the answer told. A name that the
-// buffer has no room for fills it, and is too long for the system.
+fn change_beside<'a, R: Files + Print>(
+    rt: &R,
+    what: Change,
+    name: &'a [u8],
+    path: &'a [u8],
+    given: &[u8],
+) -> Result<(), Failure<'a>> {
+    let file = begin(rt, name)?;
+    let mut room = [0u8; 512512];
+    change_in(rt, what, file, name, path, &mut room, given)
+}
+
+// The one way of every change: a file is made beside the book, the book loaded, the call run, the new book kept or not, and the answer told.
 pub fn change<R: Files + Print>(rt: &R, what: Change, path: &[u8], given: &[u8]) {
-    let mut name = [0u8; 4096];
-    let end = put_beside(&mut name, path);
-    let n = within(end, &name);
-    change_beside(rt, what, &name[..n], path, given);
+    with_beside(path, |name| {
+        say_failure(rt, change_beside(rt, what, name, path, given))
+    });
 }
 
 // ---- a reading
 
 // The longest answer is that of the settled positions: at most 1,000 parties, none with a line of more than 80 bytes.
-fn answer_in(rt: &impl Print, question: Question, book: &[u8], words: &[u8]) {
+fn answer_on(rt: &impl Print, question: Question, book: &[u8], words: &[u8]) {
     let mut line = [0u8; 81920];
-    answer_on(rt, question, book, words, &mut line);
-}
-
-fn answer_on(rt: &impl Print, question: Question, book: &[u8], words: &[u8], line: &mut [u8]) {
-    let k = desk_answers::questions::answer(question, book, words, line);
-    say(rt, part_of(line, 0, k));
+    let k = desk_answers::questions::answer(question, book, words, &mut line);
+    say(rt, part_of(&line, 0, k));
 }
 
 // The one way of every reading: the book loaded, the answer said.
 pub fn ask<R: Files + Print>(rt: &R, question: Question, words: &[u8]) {
-    let mut room = [0u8; 512512];
-    ask_in(rt, question, words, &mut room);
-}
-
-fn ask_in<R: Files + Print>(rt: &R, question: Question, words: &[u8], room: &mut [u8]) {
-    let k = load_word(rt, words, 2, room, NO_BOOK);
-    if k == NOT_LOADED {
-        return;
-    }
-    answer_in(rt, question, part_of(room, 0, k), words);
+    with_file::<512512, _, _>(rt, word(words, 2), Fault::NoBook, |book| {
+        answer_on(rt, question, book, words)
+    });
 }
 
 // What is asked of no book.
 pub fn ask_alone(rt: &impl Print, question: Question, words: &[u8]) {
-    answer_in(rt, question, b"", words);
+    answer_on(rt, question, b"", words);
 }

@@ -1,5 +1,6 @@
 // The desk's answers as lines: accepted or refused, document 01's number and reason code, where a rule is broken, what that means, and what was asked for.
 // Each function puts its piece at a place of the line and answers the place behind it.
+// Buffers have a fixed length here, since the desk has no heap.
 #![tactic(auto)]
 
 ghost use Rattle.std.specs.Prelude.{cond, [], ◌++◌, ◌≤◌};
@@ -9,7 +10,7 @@ ghost use Rattle.desk_lines.specs.Lines.{answer_text, answer_of, telling, megawa
 ghost use Rattle.desk_lines.specs.Lines.{verdict_line, open_line, clock_line, conversion_line, enter_line, mark_line, final_line, plain_line, quantity_line, eic_line, block_line};
 
 use block::numbers::number_4;
-use desk_faults::{put_fault, put_opening_fault, put_verdict_fault};
+use desk_faults::{Code, put_fault, put_opening_fault, put_verdict_fault};
 use desk_text::numbers::{put_minute, put_number};
 use desk_text::pieces::{put_code, put_field, put_named, put_worded};
 use desk_text::put::put;
@@ -67,7 +68,8 @@ fn put_answer_of(line: &mut [u8], number: u32) -> usize
     put_answer(line, number, codes::reason_code(number), 0, 0)
 }
 
-// Of a call that tells more only where it is accepted: the line of a refusal ends here.
+// Of a call that tells more only where it is accepted: the line of a refusal ends here. Each caller asks for the refusal itself: as closures, what they tell
+// behind it would each need a clause of its own, which is no plainer.
 pub fn put_telling(line: &mut [u8], number: u32) -> usize
     ensures { Put 0 (telling number []) result line.old line.new }
 {
@@ -107,7 +109,7 @@ pub fn open_line(
         return put_either(
             line,
             a,
-            rule.0 == LESSER.0,
+            rule == LESSER,
             b": settles at the lesser of the two quantities\n",
             b": settles at the seller's quantity\n",
         );
@@ -213,7 +215,7 @@ pub fn final_line(line: &mut [u8], answer: FinalAnswer, rule: Rule) -> usize
     put_either(
         line,
         b,
-        rule.0 == LESSER.0,
+        rule == LESSER,
         b" MW, the lesser of the two\n",
         b" MW, the seller's\n",
     )
@@ -255,7 +257,8 @@ pub fn eic_line(line: &mut [u8], code: &[u8], character: u8) -> usize
     if character == 0 {
         return a;
     }
-    let b = put_fault(line, a, b"the code", code, character);
+    let whose = b"the code";
+    let b = put_fault(line, a, Code { whose, code }, character);
     put_end(line, b)
 }
 
@@ -313,10 +316,8 @@ fn put_quantities(line: &mut [u8], at: usize, q: &[u8], n: usize) -> usize
     ensures { Put at (text "; MW" ++ quantities_text q.now n) result line.old line.new }
 {
     let mut place = put(line, at, b"; MW");
-    let mut k = 0;
-    while k < n {
+    for k in 0..n {
         place = put_megawatts(line, place, b" ", number_4(q, 4 * k));
-        k += 1;
     }
     place
 }

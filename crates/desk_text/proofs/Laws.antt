@@ -1,81 +1,119 @@
--- Laws of the loops: a text put byte by byte, its pieces passed by, the command that a word names.
-use Rattle.std.specs.Prelude.{◌≡◌, ◌+◌, ◌-◌, ◌≤◌, ◌<◌}
-use Rattle.laws.specs.Kit.{sym, ap, ◌∙◌, true, false, cond, List, ℕ, zero, suc, add-one, arith, length, drop, get_or, set, drop_of_length-le, drop-cons, drop-drop, is}
-use Rattle.laws.specs.Lists.{same}
+-- Laws of a text that is put, of its pieces passed by, and of the command that a word names.
+use borrow.Rule.Slice.PartMut.{put_mid}
+use Rattle.std.specs.Prelude.{◌≡◌, ◌∷◌, ◌++◌, ◌+◌, ◌-◌, ◌≤◌, ◌<◌, ◌≢◌, Option, None, Some}
+use Rattle.std.specs.List.{find}
+use Rattle.std.specs.Option.{option_map}
+use Rattle.laws.specs.Kit.{refl, sym, ap, ◌∙◌, Bool, true, false, cond, List, [], ℕ, zero, suc, min, add-one, arith, length, take, drop, get_or, drop_of_length-le, drop-cons, drop-drop, is, is_equal, is_other}
+use Rattle.laws.specs.Base.{append_assoc, length-append, length-drop, length-take-le, take-append-drop, take_all}
+use Rattle.laws.specs.Tests.{less}
+use Rattle.laws.specs.Tests.Laws.{split, less_yes, less_no}
+use Rattle.laws.specs.Lists.{same, until}
+use Rattle.paper.specs.Listing.{text}
 use Rattle.laws.specs.Bytes.{written}
-use Rattle.laws.specs.Bytes.Laws.{written_none, written_cons}
+use Rattle.laws.specs.Bytes.Laws.{written_append, written_length, written_take_drop}
 use Rattle.laws.specs.Slices.{written_past}
-use Rattle.desk_text.specs.Put.{Put}
-use Rattle.desk_text.specs.Put.Laws.{within_inside, within_past}
-use Rattle.desk_text.specs.Words.{first_piece, past_piece, past_pieces, line_numbered, commands}
-use Rattle.desk_text.specs.Arguments.{command_from, behind_last}
+use Rattle.desk_text.specs.Put.{Put, within}
+use Rattle.desk_text.specs.Put.Laws.{then_text}
+use Rattle.desk_text.specs.Words.{lines, first_piece, past_piece, past_pieces, piece_numbered, line_numbered, commands}
+use Rattle.desk_text.specs.declared.commands.Command.{Command}
+use Rattle.desk_text.specs.declared.commands.Command.TheVariants.{Open, Clock, Submit, Mark, Block, Final, Plain, List as Listing, Message, Eic, Kw, Commission, Convert, Right, Settle}
+use Rattle.desk_text.specs.Commands.{word_of, number_of}
+use Rattle.desk_text.specs.Arguments.{command_from, command_number, behind_last}
 
--- ---- put, byte by byte
+-- ---- put
 
-pub put_past : (at : ℕ) (s x : List ℕ) → length x ≤ at → Put at s (length x) x x
-put_past at s x h = record { size = sym (within_past (at + length s) (length x) (omega arith)); text = sym (written_past at s x h); fits = omega arith }
+pub within_min : (a b : ℕ) → min a b ≡ within a b
+unfolding within less
+within_min a b = grind arith
 
-module _ (s b : List ℕ) (place i : ℕ) where
-  pub put_turn : {t : List ℕ} → i < length s → written place (drop i s) b ≡ t → written (place + 1) (drop (i + 1) s) (set b place (get_or s i 0)) ≡ t
-  put_turn h e = rw (add-one i) (sym (written_cons place (get_or s i 0) (drop (suc i) s) b)) ∙ ap (λ l. written place l b) (sym (drop-cons s i 0 h)) ∙ e
+-- what would fall past the end is left out
+cut_short : (o n : ℕ) (s b : List ℕ) → n ≤ length s → length b ≤ o + n → written o s b ≡ written o (take n s) b
+cut_short o n s b h l =
+    let k : length (take n s) ≡ n = length-take-le n s h in
+    ap (λ p. written o p b) (sym (take-append-drop n s)) ∙ written_append o (take n s) (drop n s) b
+    ∙ written_past (o + length (take n s)) (drop n s) (written o (take n s) b) (omega (arith, written_length o (take n s) b))
 
-module _ (at place i : ℕ) (s x b : List ℕ) (n : length b ≡ length x) (e : place ≡ at + i) (f : place ≤ length b) (l : i ≤ length s) (w : written place (drop i s) b ≡ written at s x) where
-  pub put_full : length b ≤ place → Put at s place x b
-  put_full h =
-      let q : length x ≡ place = omega arith in
-      record { size = sym (within_past (at + length s) (length x) (omega arith) ∙ q); text = sym (written_past place (drop i s) b h) ∙ w; fits = f }
-
-  pub put_end : length s ≤ i → Put at s place x b
-  put_end h =
-      let q : at + length s ≡ place = omega arith in
-      record { size = sym (within_inside (at + length s) (length x) (omega arith) ∙ q); text = sym (ap (λ l. written place l b) (drop_of_length-le s h) ∙ written_none place b) ∙ w; fits = f }
+pub put_cut : (at start n : ℕ) (s x : List ℕ) {y : List ℕ} → start ≡ min at (length x) → n ≡ min (length s) (length x - start) → y ≡ take n s
+    → Put at s (start + n) x (put_mid start (start + n - start) x y)
+put_cut at start n s x {y} e f g =
+    let k : length (take n s) ≡ n = length-take-le n s (omega arith) in
+    let cut : written start s x ≡ written start (take n s) x =
+    split (less n (length s))
+    (λ t. let l : n < length s = less_yes n (length s) t in cut_short start n s x (omega arith) (omega arith))
+    (λ t. let l : length s ≤ n = less_no n (length s) t in ap (λ p. written start p x) (sym (take_all n s l))) in
+    let front : written start s x ≡ written at s x = ap (λ o. written o s x) (e ∙ within_min at (length x)) ∙ then_text at (length x) s x refl in
+    let q : start + n - start ≡ n = omega arith in
+    let m : start + n ≡ min (at + length s) (length x) = omega arith in
+    let parts : written start (take n s) x ≡ take start x ++ take n s ++ drop (start + length (take n s)) x = written_take_drop start (take n s) x (omega arith) in
+    record {
+      size = m ∙ within_min (at + length s) (length x);
+      text = rw (g, q, drop-drop n start x, ← append_assoc (take start x) (take n s) (drop (start + n) x)) (sym (rw k at parts)) ∙ sym cut ∙ front;
+      fits = rw (length-append, length-append, length-drop, length-drop, length-take-le start x (omega arith)) (omega (arith, ap length g));
+    }
 
 -- ---- pieces
 
-module _ (end : ℕ) (s : List ℕ) (at k : ℕ) (e : k ≡ length (first_piece end (drop at s))) where
-  pub past_piece_go : drop (at + k + 1) s ≡ past_piece end (drop at s)
-  unfolding past_piece
-  past_piece_go =
-      let q : at + k + 1 ≡ at + (length (first_piece end (drop at s)) + 1) = omega arith in
-      ap (λ n. drop n s) q ∙ sym (drop-drop (length (first_piece end (drop at s)) + 1) at s)
+pub drop_inside : (k n : ℕ) (s : List ℕ) → n ≡ min k (length s) → drop n s ≡ drop k s
+drop_inside k n s e =
+    split (less (length s) k)
+    (λ t. let l : length s < k = less_yes (length s) k t in drop_of_length-le s {i = n} (omega arith) ∙ sym (drop_of_length-le s {i = k} (omega arith)))
+    (λ t. let l : k ≤ length s = less_no (length s) k t in let q : n ≡ k = omega arith in ap (λ m. drop m s) q)
 
-  pub past_piece_end : at ≤ length s → length s - at ≤ k → drop (length s) s ≡ past_piece end (drop at s)
-  past_piece_end h l = drop_of_length-le s {i = length s} (omega arith) ∙ sym (drop_of_length-le s {i = at + k + 1} (omega arith)) ∙ past_piece_go
+-- k pieces in all, i of which are passed
 
-pub pieces_turn : (end left : ℕ) (x y : List ℕ) {t : List ℕ} → 0 < left → y ≡ past_piece end x → past_pieces end left x ≡ t → past_pieces end (left - 1) y ≡ t
-unfolding past_pieces
-pieces_turn end zero x y h e p = absurd (omega arith)
-pieces_turn end (suc k) x y h e p = let q : suc k - 1 ≡ k = omega arith in rw (q, e) p
+module _ (end k i : ℕ) (x : List ℕ) where
+  pub pieces_turn : (y : List ℕ) {t : List ℕ} → i < k → y ≡ past_piece end x → past_pieces end (k - i) x ≡ t → past_pieces end (k - (i + 1)) y ≡ t
+  unfolding past_pieces
+  pieces_turn y h e p = let q : k - i ≡ suc (k - (i + 1)) = omega arith in rw e (rw q at p)
 
-pub pieces_end : (end left : ℕ) (x : List ℕ) {t : List ℕ} → left ≤ 0 → past_pieces end left x ≡ t → x ≡ t
-unfolding past_pieces
-pieces_end end zero x h p = p
-pieces_end end (suc k) x h p = absurd (omega arith)
+  pub pieces_end : {t : List ℕ} → k ≤ i → past_pieces end (k - i) x ≡ t → x ≡ t
+  unfolding past_pieces
+  pieces_end h p = let q : k - i ≡ zero = omega arith in rw q at p
 
--- ---- the command that a word names, of those from k on
+-- ---- the command that a word names: the list of the program goes through the words of the definition in its order
 
-module _ (k : ℕ) (w : List ℕ) where
-  pub command_hit : (left : ℕ) {t : ℕ} → 0 < left → same (line_numbered k commands) w ≡ true → command_from left k w ≡ t → k ≡ t
-  unfolding command_from
-  command_hit zero h e p = absurd (omega arith)
-  command_hit (suc left) h e p = sym (rw e) ∙ p
+-- the commands of a list have the numbers from k on, and the words of those numbers
+abbrev Listed : ℕ → List Command → Type 0
+Listed k [] = Unit
+Listed k (c ∷ cs) = (number_of (Some c) ≡ k) × (line_numbered k commands ≡ word_of c) × Listed (k + 1) cs
 
-  pub command_miss : (left : ℕ) {t : ℕ} → 0 < left → same (line_numbered k commands) w ≡ false → command_from left k w ≡ t → command_from (left - 1) (k + 1) w ≡ t
-  unfolding command_from
-  command_miss zero h e p = absurd (omega arith)
-  command_miss (suc left) h e p = let q : suc left - 1 ≡ left = omega arith in rw q (sym (rw e) ∙ p)
+found_from : (w : List ℕ) (k : ℕ) (cs : List Command) → Listed k cs → number_of (find (λ d. same (word_of d) w) cs) ≡ command_from (length cs) k w
+unfolding command_from number_of
+found_from w k [] h = refl
+found_from w k (c ∷ cs) h = rw h.1 (by (same (word_of c) w) (found_from w (k + 1) cs h.2))
+  where
+    by : (t : Bool) → number_of (find (λ d. same (word_of d) w) cs) ≡ command_from (length cs) (k + 1) w
+        → number_of (cond t (Some c) (find (λ d. same (word_of d) w) cs)) ≡ cond t k (command_from (length cs) (k + 1) w)
+    by true e = h.0
+    by false e = e
 
-  pub command_end : (left : ℕ) {t : ℕ} → left ≤ 0 → command_from left k w ≡ t → 0 ≡ t
-  unfolding command_from
-  command_end zero h p = p
-  command_end (suc left) h p = absurd (omega arith)
+whole : (r : Option Command) → option_map (λ d. d) r ≡ r
+whole None = refl
+whole (Some d) = refl
+
+abbrev commands_all : List Command
+commands_all = Open ∷ Clock ∷ Submit ∷ Mark ∷ Block ∷ Final ∷ Plain ∷ Listing ∷ Message ∷ Eic ∷ Kw ∷ Commission ∷ Convert ∷ Right ∷ Settle ∷ []
+
+all_listed : Listed 1 commands_all
+unfolding commands lines line_numbered piece_numbered past_pieces past_piece first_piece word_of number_of text until is
+all_listed = (refl, refl, (refl, refl, (refl, refl, (refl, refl, (refl, refl, (refl, refl, (refl, refl, (refl, refl, (refl, refl, (refl, refl, (refl, refl, (refl, refl, (refl, refl, (refl, refl, (refl, refl, tt)))))))))))))))
+
+pub command_found : (w : List ℕ) (r : Option Command) → option_map (λ d. d) r ≡ find (λ d. same (word_of d) w) commands_all → number_of r ≡ command_number w
+unfolding command_number
+command_found w r e = ap number_of (sym (whole r) ∙ e) ∙ found_from w 1 commands_all all_listed
 
 -- ---- the last byte of a kind
 
 module _ (end k at : ℕ) (s : List ℕ) where
-  pub last_turn : {t : ℕ} → k < length s → behind_last end k at (drop k s) ≡ t → behind_last end (k + 1) (cond (is (get_or s k 0) end) (k + 1) at) (drop (k + 1) s) ≡ t
+  last_go : {t : ℕ} → k < length s → behind_last end k at (drop k s) ≡ t → behind_last end (k + 1) (cond (is (get_or s k 0) end) (k + 1) at) (drop (k + 1) s) ≡ t
   unfolding behind_last
-  last_turn h e = ap (λ n. behind_last end (k + 1) (cond (is (get_or s k 0) end) (k + 1) at) (drop n s)) (add-one k) ∙ (rw (drop-cons s k 0 h) at e)
+  last_go h e = ap (λ n. behind_last end (k + 1) (cond (is (get_or s k 0) end) (k + 1) at) (drop n s)) (add-one k) ∙ (rw (drop-cons s k 0 h) at e)
+
+  pub last_hit : {t : ℕ} → k < length s → get_or s k 0 ≡ end → behind_last end k at (drop k s) ≡ t → behind_last end (k + 1) (k + 1) (drop (k + 1) s) ≡ t
+  last_hit h q e = rw (is_equal _ _ q) at (last_go h e)
+
+  pub last_miss : {t : ℕ} → k < length s → get_or s k 0 ≢ end → behind_last end k at (drop k s) ≡ t → behind_last end (k + 1) at (drop (k + 1) s) ≡ t
+  last_miss h q e = rw (is_other _ _ q) at (last_go h e)
 
   pub last_end : {t : ℕ} → length s ≤ k → behind_last end k at (drop k s) ≡ t → at ≡ t
   unfolding behind_last

@@ -5,3 +5,4 @@ pub mod Pieces
 pub mod Replies
 pub mod Words
 pub mod Arguments
+pub mod Commands

@@ -3,22 +3,9 @@
 #![tactic(auto)]
 
 pub mod arguments;
+pub mod commands;
 pub mod numbers;
 pub mod pieces;
 pub mod put;
 pub mod replies;
 pub mod words;
-
-use paper::Minute;
-
-#[derive(Clone, Copy)]
-pub struct NumberRead {
-    pub read: bool,
-    pub value: u32,
-}
-
-#[derive(Clone, Copy)]
-pub struct MinuteRead {
-    pub read: bool,
-    pub minute: Minute,
-}

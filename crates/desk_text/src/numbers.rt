@@ -1,11 +1,11 @@
 // Numbers as decimal text, written and read.
+// Buffers have a fixed length here, since the desk has no heap.
 ghost use Rattle.std.specs.Prelude.{◌≡◌, ◌≤◌};
 ghost use Rattle.paper.specs.QuantityText.{last_digits};
 ghost use Rattle.desk_text.specs.Put.{Put};
-ghost use Rattle.desk_text.specs.Numbers.{number_text, difference_text, minute_text, no_number, number_read, minute_after, minute_before, minute_read};
+ghost use Rattle.desk_text.specs.Numbers.{number_text, difference_text, minute_text, number_read, minute_after, minute_before, minute_read};
 
 use crate::put::put;
-use crate::{MinuteRead, NumberRead};
 use field::all_digits;
 use paper::Minute;
 use quantity::digits::{decimal_from, places, put_last_digits};
@@ -45,74 +45,41 @@ pub fn put_minute(line: &mut [u8], at: usize, minute: Minute) -> usize
     put_difference(line, at, minute.0 as usize, 10080)
 }
 
-fn no_number() -> NumberRead
-    ensures { result ≡ no_number }
-{
-    NumberRead {
-        read: false,
-        value: 0,
-    }
-}
-
 // One to five digits and nothing else.
-pub fn number_read(s: &[u8]) -> NumberRead
+pub fn number_read(s: &[u8]) -> Option<u32>
     ensures { result ≡ number_read s.now }
 {
-    if s.len() < 1 {
-        return no_number();
+    if s.is_empty() || 5 < s.len() || !all_digits(s) {
+        return None;
     }
-    if 5 < s.len() {
-        return no_number();
-    }
-    if !all_digits(s) {
-        return no_number();
-    }
-    NumberRead {
-        read: true,
-        value: decimal_from(s),
-    }
+    Some(decimal_from(s))
 }
 
 // A minute out of range is put as one that no clock keeps, so that the clock's call refuses it.
-fn minute_after(r: NumberRead) -> MinuteRead
-    ensures { result ≡ minute_after r }
+fn minute_after(x: u32) -> Minute
+    ensures { result ≡ minute_after x }
 {
-    if 1500 < r.value {
-        return MinuteRead {
-            read: r.read,
-            minute: Minute(65535),
-        };
+    if 1500 < x {
+        return Minute(65535);
     }
-    MinuteRead {
-        read: r.read,
-        minute: Minute(10080 + r.value as u16),
-    }
+    Minute(10080 + x as u16)
 }
 
-fn minute_before(r: NumberRead) -> MinuteRead
-    ensures { result ≡ minute_before r }
+fn minute_before(x: u32) -> Minute
+    ensures { result ≡ minute_before x }
 {
-    if 10080 < r.value {
-        return MinuteRead {
-            read: r.read,
-            minute: Minute(65535),
-        };
+    if 10080 < x {
+        return Minute(65535);
     }
-    MinuteRead {
-        read: r.read,
-        minute: Minute(10080 - r.value as u16),
-    }
+    Minute(10080 - x as u16)
 }
 
-// Minutes from the day's start; a minus, 45, before those that lie before it.
-pub fn minute_read(s: &[u8]) -> MinuteRead
+// Minutes from the day's start; a minus before those that lie before it.
+pub fn minute_read(s: &[u8]) -> Option<Minute>
     ensures { result ≡ minute_read s.now }
 {
-    if s.len() == 0 {
-        return minute_after(number_read(s));
+    match s.strip_prefix(b"-") {
+        Some(rest) => number_read(rest).map(minute_before),
+        None => number_read(s).map(minute_after),
     }
-    if s[0] != 45 {
-        return minute_after(number_read(s));
-    }
-    minute_before(number_read(&s[1..]))
 }

@@ -1,55 +1,47 @@
 // The pieces of a text, and the words that stand in them.
-ghost use Rattle.std.specs.Prelude.{◌≡◌, ◌≤◌, length, drop};
+ghost use Rattle.std.specs.Prelude.{◌≡◌};
 ghost use Rattle.desk_text.specs.Put.{Put};
 ghost use Rattle.desk_text.specs.Words.{past_piece, past_pieces, piece_numbered, line_numbered, word_numbered, meaning, state_meaning};
 
 use crate::put::put;
 use field::{length_before, part_before};
 
-// The place behind the piece that starts at `at`.
-fn past_piece(s: &[u8], end: u8, at: usize) -> usize
-    requires { at ≤ length s.now }
-    ensures { (result ≤ length s.now) × (drop result s.now ≡ past_piece end (drop at s.now)) }
+fn past_piece(s: &[u8], end: u8) -> &[u8]
+    ensures { result.now ≡ past_piece end s.now }
 {
-    let k = length_before(&s[at..], end);
-    if s.len() - at <= k {
-        return s.len();
-    }
-    at + k + 1
+    let behind = length_before(s, end) + 1;
+    &s[behind.min(s.len())..]
 }
 
-fn past_pieces(s: &[u8], end: u8, k: usize) -> usize
-    ensures { (result ≤ length s.now) × (drop result s.now ≡ past_pieces end k s.now) }
+fn past_pieces(s: &[u8], end: u8, k: usize) -> &[u8]
+    ensures { result.now ≡ past_pieces end k s.now }
 {
-    let mut at = 0;
-    let mut left = k;
-    while 0 < left {
-        at = past_piece(s, end, at);
-        left -= 1;
+    let mut rest = s;
+    for _ in 0..k {
+        rest = past_piece(rest, end);
     }
-    at
+    rest
 }
 
 // A piece by its number; empty past the last.
 pub fn piece_numbered(s: &[u8], end: u8, k: usize) -> &[u8]
     ensures { result.now ≡ piece_numbered end k s.now }
 {
-    let at = past_pieces(s, end, k);
-    part_before(&s[at..], end)
+    part_before(past_pieces(s, end, k), end)
 }
 
 // A row of a table in one text.
 pub fn line_numbered(s: &[u8], k: usize) -> &[u8]
     ensures { result.now ≡ line_numbered k s.now }
 {
-    piece_numbered(s, 10, k)
+    piece_numbered(s, b'\n', k)
 }
 
 // The arguments of a command stand one behind the other, a zero byte after each: no argument holds one.
 pub fn word(words: &[u8], k: usize) -> &[u8]
     ensures { result.now ≡ word_numbered k words.now }
 {
-    piece_numbered(words, 0, k)
+    piece_numbered(words, b'\0', k)
 }
 
 // Line k has the words of number k.

@@ -17,10 +17,10 @@ fn character_value(x: u8) -> u8
         value = 36;
     }
     if letter(x) {
-        value = x - 55;
+        value = x - b'A' + 10;
     }
     if digit(x) {
-        value = x - 48;
+        value = x - b'0';
     }
     value
 }
@@ -30,10 +30,8 @@ fn values_of(s: &[u8]) -> [u8; 16]
     ensures { result ≡ map character_value s.now }
 {
     let mut values = [0u8; 16];
-    let mut i = 0;
-    while i < 16 {
+    for i in 0..16 {
         values[i] = character_value(s[i]);
-        i += 1;
     }
     values
 }
@@ -53,11 +51,9 @@ fn sum_of(values: &[u8]) -> u16
 {
     let mut sum: u16 = 0;
     let mut weight: u16 = 16;
-    let mut i = 0;
-    while i < values.len() {
-        sum += term(weight, values[i]);
+    for value in values {
+        sum += term(weight, *value);
         weight -= 1;
-        i += 1;
     }
     sum
 }
@@ -66,10 +62,8 @@ fn all_known(values: &[u8]) -> bool
     ensures { result ≡ every known values.now }
 {
     let mut ok = true;
-    let mut i = 0;
-    while i < values.len() {
-        ok = ok & (values[i] != 255);
-        i += 1;
+    for value in values {
+        ok = ok & (*value != 255);
     }
     ok
 }
@@ -92,14 +86,10 @@ fn allowed_in_front(s: &[u8]) -> usize
     ensures { result ≡ allowed_in_front s.now }
 {
     let front = part_of(s, 0, 15);
-    let mut i = 0;
-    while i < front.len() {
-        if character_value(front[i]) == 255 {
-            return i;
-        }
-        i += 1;
-    }
-    i
+    front
+        .iter()
+        .position(|x| character_value(*x) == 255)
+        .unwrap_or(front.len())
 }
 
 // Of a good code no more is asked than whether it is valid.

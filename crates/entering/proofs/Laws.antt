@@ -1,8 +1,7 @@
 -- A sound book is full where its used slots reach its end; the numbers of an entering in their order, and the book as it leaves it, from what the code finds.
 use Rattle.std.specs.Prelude.{◌≡◌, ◌+◌, ◌-◌, ◌*◌, ◌/◌, ◌%◌, ◌≤◌}
-use Rattle.laws.specs.Kit.{sym, ap, ◌∙◌, Bool, true, false, cond, List, ℕ, arith, length, ◌or◌, neg, is, split, is_yes, is_no, is_equal, is_other, neg_true}
-use Rattle.laws.specs.Lists.{place, has}
-use Rattle.laws.specs.Lists.Search.{place_is_not_0}
+use Rattle.laws.specs.Kit.{sym, ap, ap₂, ◌∙◌, Bool, true, false, cond, List, ℕ, arith, length, ◌or◌, neg, is, split, is_yes, is_no, is_equal, is_other}
+use Rattle.laws.specs.Lists.{has}
 use Rattle.laws.specs.Lists.Keep.{until_length, count_until}
 use Rattle.laws.specs.Bytes.{part, written}
 use Rattle.paper.specs.Layout.{Bytes, Block, n_of}
@@ -12,11 +11,16 @@ use Rattle.paper.specs.Rights.{right_allowed, enter_number, entered}
 use Rattle.facts.specs.Book.{slots_length}
 use Rattle.facts.specs.Sound.{Sound, sound_says, book_least, day_n}
 use Rattle.facts.specs.Rights.{enters, entering_refused}
+use Rattle.entering.specs.declared.Refusal.{Refusal}
+use Rattle.entering.specs.declared.Refusal.TheVariants.{NotSound, Unfit, Full}
+use Rattle.entering.specs.Numbers.{refusal_number}
 
--- ---- a search that has found a place
+-- ---- a refusal's number is no other answer's
 
-pub has_placed : (p : Block → Bool) (l : List Block) (i : ℕ) → i + 1 ≡ place p l → true ≡ has p l
-has_placed p l i e = sym (neg_true _ (is_other (place p l) 0 (λ z. omega (arith, e)))) ∙ place_is_not_0 p l
+pub refusal_other : (r : Refusal) → refusal_number r ≡ 0 → ⊥
+refusal_other NotSound e = omega (arith, e)
+refusal_other Unfit e = omega (arith, e)
+refusal_other Full e = omega (arith, e)
 
 -- ---- a sound book
 
@@ -54,19 +58,26 @@ module _ (book block : Bytes) where
     unfolding part day_block
     day_few = rw p (day_n (day_block book) (sound_says book e).day)
 
-    pub number_found : {a b f : Bool} {m r : ℕ} {us : List Block} → a ≡ right_allowed d block → us ≡ used book → b ≡ has (same_right block) us → f ≡ is (free_slots book) 0
-        → m ≡ cond f 17 0 → r ≡ cond (neg a or b) 40 m → r ≡ enter_number book block
-    unfolding enter_number neg day_block part
-    number_found g u h q n t = t ∙ rw (n, q, g, h, u, p, e)
+    module _ {a b : Bool} {us : List Block} (g : a ≡ right_allowed d block) (u : us ≡ used book) (h : b ≡ has (same_right block) us) where
+      number_found : cond (neg a or b) 40 (cond (is (free_slots book) 0) 17 0) ≡ enter_number book block
+      unfolding enter_number neg day_block part
+      number_found = rw (g, h, u, p, e)
+
+      pub unfit : (neg a or b) ≡ true → ◌≡◌ {A = ℕ} 40 (enter_number book block)
+      unfit t = sym (ap (λ w. cond w 40 (cond (is (free_slots book) 0) 17 0)) t) ∙ number_found
+
+      module _ {f : Bool} (q : f ≡ is (free_slots book) 0) (t : (neg a or b) ≡ false) where
+        pub full : f ≡ true → ◌≡◌ {A = ℕ} 17 (enter_number book block)
+        full v = sym (ap₂ (λ w z. cond w 40 (cond z 17 0)) t (sym q ∙ v)) ∙ number_found
+
+        pub fits : f ≡ false → ◌≡◌ {A = ℕ} 0 (enter_number book block)
+        fits v = sym (ap₂ (λ w z. cond w 40 (cond z 17 0)) t (sym q ∙ v)) ∙ number_found
 
   -- ---- the book: r is the number
 
   module _ {r : ℕ} (q : r ≡ enter_number book block) where
     pub refused : (r ≡ 0 → ⊥) → (r ≡ enter_number book block) × (book ≡ entered book block)
     refused n = (q, sym (entering_refused book block (λ z. n (q ∙ z))))
-
-    pub passed : r ≡ 0 → Sound book
-    passed z = (enters book block (sym q ∙ z)).was
 
     pub written_in : r ≡ 0 → {at : ℕ} {after : Bytes} → at ≡ 512 + 512 * length (used book) → after ≡ written at block book → (r ≡ enter_number book block) × (after ≡ entered book block)
     written_in z f g = (q, g ∙ ap (λ a. written a block book) f ∙ sym (enters book block (sym q ∙ z)).result)

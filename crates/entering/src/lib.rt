@@ -1,18 +1,19 @@
 // C-14, entering a right: it "takes the lowest free slot and is entered once, never altered". A block that is refused leaves the book as it was.
 #![tactic(auto)]
 
-ghost use Rattle.std.specs.Prelude.{◌≡◌, cond, ◌+◌, ◌*◌, ◌≤◌, length};
+ghost use Rattle.std.specs.Prelude.{◌≡◌, ◌+◌, ◌*◌, ◌≤◌, IfOk, length};
 ghost use Rattle.laws.specs.Lists.{has};
 ghost use Rattle.laws.specs.Cut.{cut};
 ghost use Rattle.paper.specs.Layout.{n_of};
 ghost use Rattle.paper.specs.Book.{used};
 ghost use Rattle.paper.specs.Sound.{same_right};
 ghost use Rattle.paper.specs.Rights.{right_allowed, enter_number, entered};
+ghost use Rattle.entering.specs.Numbers.{refusal_number, answer_number};
 
 use block::check::check_right;
 use block::numbers::write_bytes;
 use field::part_of;
-use slots::{block_at, is_right, same_right, used_count, used_part};
+use slots::{is_right, same_right, used_count, used_part};
 use sound::sound;
 use sound_blocks::right::right_sound;
 
@@ -31,15 +32,7 @@ fn right_allowed(day: &[u8], block: &[u8]) -> bool
 fn is_stored(us: &[u8], block: &[u8]) -> bool
     ensures { result ≡ has (same_right block.now) (cut 512 us.now) }
 {
-    let blocks = us.len() / 512;
-    let mut i = 0;
-    while i < blocks {
-        if same_right(block, block_at(us, i)) {
-            return true;
-        }
-        i += 1;
-    }
-    false
+    us.chunks_exact(512).any(|b| same_right(block, b))
 }
 
 // Where the lowest free slot begins; where there is none, the book's end.
@@ -50,35 +43,54 @@ fn first_free(book: &[u8]) -> usize
     512 + 512 * used_count(&book[512..])
 }
 
-// A refusal's number, or what the tests behind it say.
-fn refused_if(test: bool, number: u32, otherwise: u32) -> u32
-    ensures { result ≡ cond test number otherwise }
-{
-    if test { number } else { otherwise }
+// "Entering: 1, 40 malformed or equal to a stored right in all but limits, 17".
+#[derive(Clone, Copy)]
+enum Refusal {
+    NotSound,
+    Unfit,
+    Full,
 }
 
-// "Entering: 1, 40 malformed or equal to a stored right in all but limits, 17".
-fn enter_number(book: &[u8], block: &[u8]) -> u32
-    ensures { result ≡ enter_number book.now block.now }
+impl Refusal {
+    // By which the desk and its C interface answer.
+    fn number(self) -> u32
+        ensures { result ≡ refusal_number self }
+    {
+        match self {
+            Refusal::NotSound => 1,
+            Refusal::Unfit => 40,
+            Refusal::Full => 17,
+        }
+    }
+}
+
+// Where the block is to stand, or why it is not entered.
+fn place_for(book: &[u8], block: &[u8]) -> Result<usize, Refusal>
+    ensures number { answer_number result ≡ enter_number book.now block.now }
+    ensures place { IfOk result (λ at. at ≡ 512 + 512 * length (used book.now)) }
 {
     if !sound(book) {
-        return 1;
+        return Err(Refusal::NotSound);
     }
-    let unfit = !right_allowed(part_of(book, 0, 512), block) | is_stored(used_part(book), block);
-    let full = first_free(book) == book.len();
-    let otherwise = refused_if(full, 17, 0);
-    refused_if(unfit, 40, otherwise)
+    if !right_allowed(part_of(book, 0, 512), block) | is_stored(used_part(book), block) {
+        return Err(Refusal::Unfit);
+    }
+    let at = first_free(book);
+    if at == book.len() {
+        return Err(Refusal::Full);
+    }
+    Ok(at)
 }
 
 // On 0 the block stands in the book as it was given, its check too.
 pub fn enter_right(book: &mut [u8], block: &[u8]) -> u32
     ensures { (result ≡ enter_number book.old block.now) × (book.new ≡ entered book.old block.now) }
 {
-    let number = enter_number(book, block);
-    if number != 0 {
-        return number;
+    match place_for(book, block) {
+        Ok(at) => {
+            write_bytes(book, at, block);
+            0
+        }
+        Err(refusal) => refusal.number(),
     }
-    let at = first_free(book);
-    write_bytes(book, at, block);
-    number
 }

@@ -25,49 +25,14 @@ pub fn part_of(s: &[u8], at: usize, n: usize) -> &[u8]
 pub fn within(n: usize, buffer: &[u8]) -> usize
     ensures { (result ≡ min n (length buffer.now)) × (result ≤ length buffer.now) × (result ≡ length (take result buffer.now)) }
 {
-    if n <= buffer.len() {
-        return n;
-    }
-    buffer.len()
+    n.min(buffer.len())
 }
 
-// Looks at every byte, whatever it finds: so several go in one step of the machine.
-fn same_bytes(a: &[u8], b: &[u8]) -> bool
-    requires { length a.now ≡ length b.now }
-    ensures { result ≡ same a.now b.now }
-{
-    let mut ok = true;
-    let mut i = 0;
-    while i < a.len() {
-        ok = ok & (a[i] == b[i]);
-        i += 1;
-    }
-    ok
-}
-
-// The one comparison of fields: of ids, codes, pairs of parties, days, quantities. Sixteen bytes at a time, since ids and codes have
-// as many; it stops at the first sixteen that differ.
+// The one comparison of fields: of ids, codes, pairs of parties, days, quantities.
 pub fn same(a: &[u8], b: &[u8]) -> bool
     ensures { result ≡ same a.now b.now }
 {
-    if a.len() != b.len() {
-        return false;
-    }
-    let mut at = 0;
-    while 16 <= a.len() - at {
-        if !same_bytes(&a[at..at + 16], &b[at..at + 16]) {
-            return false;
-        }
-        at += 16;
-    }
-    same_bytes(&a[at..], &b[at..])
-}
-
-// 0 exactly where both are.
-fn larger(a: u8, b: u8) -> u8
-    ensures { is result 0 ≡ (is a 0 and is b 0) }
-{
-    if a < b { b } else { a }
+    a == b
 }
 
 // For the bytes that the layout shows as 0, and for free slots, up to hundreds of thousands at a time: it looks at every byte, whatever it finds, so
@@ -76,10 +41,8 @@ pub fn all_zero(s: &[u8]) -> bool
     ensures { result ≡ zeros s.now }
 {
     let mut most: u8 = 0;
-    let mut i = 0;
-    while i < s.len() {
-        most = larger(most, s[i]);
-        i += 1;
+    for x in s {
+        most = most.max(*x);
     }
     most == 0
 }
@@ -88,21 +51,21 @@ pub fn all_zero(s: &[u8]) -> bool
 pub fn digit(x: u8) -> bool
     ensures { result ≡ digit x }
 {
-    (48 <= x) & (x <= 57)
+    x.is_ascii_digit()
 }
 
 // A–Z: no small letter stands in an id or a code.
 pub fn letter(x: u8) -> bool
     ensures { result ≡ letter x }
 {
-    (65 <= x) & (x <= 90)
+    x.is_ascii_uppercase()
 }
 
 // Stands in ids and in codes, though never as a code's sixteenth character.
 pub fn hyphen(x: u8) -> bool
     ensures { result ≡ hyphen x }
 {
-    x == 45
+    x == b'-'
 }
 
 // An id is of "A–Z, 0–9 and hyphen".
@@ -116,40 +79,21 @@ fn id_character(x: u8) -> bool
 fn all_id_characters(s: &[u8]) -> bool
     ensures { result ≡ every id_character s.now }
 {
-    let mut ok = true;
-    let mut i = 0;
-    while i < s.len() {
-        ok = ok & id_character(s[i]);
-        i += 1;
-    }
-    ok
+    s.iter().all(|x| id_character(*x))
 }
 
 // Of a day, and of a number as text.
 pub fn all_digits(s: &[u8]) -> bool
     ensures { result ≡ every digit s.now }
 {
-    let mut ok = true;
-    let mut i = 0;
-    while i < s.len() {
-        ok = ok & digit(s[i]);
-        i += 1;
-    }
-    ok
+    s.iter().all(|x| digit(*x))
 }
 
 // How many bytes stand before the first x, all of them where there is none: an id goes up to its first zero byte, a line up to its end.
 pub fn length_before(s: &[u8], x: u8) -> usize
     ensures { (result ≡ length (until (λ y. is y x) s.now)) × (result ≤ length s.now) }
 {
-    let mut i = 0;
-    while i < s.len() {
-        if s[i] == x {
-            return i;
-        }
-        i += 1;
-    }
-    i
+    s.iter().position(|y| *y == x).unwrap_or(s.len())
 }
 
 pub fn part_before(s: &[u8], x: u8) -> &[u8]

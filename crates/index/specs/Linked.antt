@@ -1,9 +1,10 @@
 -- Blocks in a row, linked in buckets by the bytes of a field: a search meets no block of another bucket.
 pub mod Laws
-use Rattle.std.specs.Prelude.{◌≡◌, Bool, true, List, [], ℕ, ◌+◌, ◌≤◌, ◌<◌, ◌/◌, length, drop, get_or}
+use Rattle.std.specs.Prelude.{◌≡◌, Bool, true, false, Option, Some, MatchOption, List, [], ℕ, ◌+◌, ◌≤◌, ◌<◌, ◌/◌, length, drop, get_or}
 use Rattle.laws.specs.Tests.{◌and◌, is}
 use Rattle.laws.specs.Lists.{place}
 use Rattle.laws.specs.Bytes.{part}
+use Rattle.laws.specs.Cut.{cut}
 use Rattle.laws.specs.Loops.{place_from}
 use Rattle.paper.specs.Layout.{Bytes, Block, id_of, pair, key}
 use Rattle.paper.specs.Book.{is_series, is_series_of, id_is, key_is, trade, trade_is}
@@ -51,6 +52,36 @@ module _ (p : ℕ → Block → Bool) (l : List Block) where
     pub go_on : Nexts i nexts
     pub buckets : length heads ≡ 1024
     pub nexts_length : length nexts ≡ 1000
+
+-- r names the bucket in which p links x, or that p links it in none
+abbrev pub Told : (p : ℕ → Block → Bool) (x : Block) (r : Option ℕ) → Type 0
+Told p x r = MatchOption r ((g : ℕ) → p g x ≡ false) (λ b. (g : ℕ) → p g x ≡ is b g)
+
+-- gives tells of the blocks of s nothing but buckets
+abbrev pub Named : (gives : Block → Option ℕ → Type 0) (s : Bytes) → Type 0
+Named gives s = (k g : ℕ) → k < length s / 512 → gives (get_or (cut 512 s) k []) (Some g) → g < 1024
+
+-- from block i on they are linked by every p that says of each block what gives tells of it
+abbrev pub LinkedAs : (gives : Block → Option ℕ → Type 0) (s : Bytes) (i : ℕ) (heads nexts : List ℕ) → Type 0
+LinkedAs gives s i heads nexts =
+    (p : ℕ → Block → Bool) → ((k : ℕ) (r : Option ℕ) → k < length s / 512 → gives (get_or (cut 512 s) k []) r → Told p (get_or (cut 512 s) k []) r) → Links p (cut 512 s) i heads nexts
+
+-- a search from block t on, along the blocks of l that p links: p links all that pass q, and whether block j passes, counted from 0, is told by gives
+pub record Search (nexts : List ℕ) (gives : ℕ → Bool → Type 0) (l : List Block) (p q : Block → Bool) (t : ℕ) : Type 0 where
+  pub along : (j : ℕ) → t ≤ j → j < length l → p (get_or l j []) ≡ true → get_or nexts j 0 ≡ place_from (j + 1) p (drop (j + 1) l)
+  pub linked : (x : Block) → q x ≡ true → p x ≡ true
+  pub told : (j : ℕ) (b : Bool) → j < length l → gives j b → b ≡ q (get_or l j [])
+
+-- begun at the first block that p links, it finds the first that passes
+abbrev pub Finds : (nexts : List ℕ) (gives : ℕ → Bool → Type 0) (from found : ℕ) → Type 0
+Finds nexts gives from found =
+    (l : List Block) (p q : Block → Bool) (t : ℕ) → Search nexts gives l p q t → from ≡ place_from t p (drop t l) → found ≡ place_from t q (drop t l)
+
+-- in a bucket that holds all that pass, where p links all blocks
+abbrev pub FindsIn : (heads nexts : List ℕ) (gives : ℕ → Bool → Type 0) (bucket found : ℕ) → Type 0
+FindsIn heads nexts gives bucket found =
+    (l : List Block) (p : ℕ → Block → Bool) (q : Block → Bool) → Links p l 0 heads nexts → ((x : Block) → q x ≡ true → p bucket x ≡ true)
+    → ((j : ℕ) (b : Bool) → j < length l → gives j b → b ≡ q (get_or l j [])) → found ≡ place q l
 
 -- ---- what is sought
 

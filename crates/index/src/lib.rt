@@ -1,36 +1,26 @@
 // Series found by their id, by their key or by the parties of a trade. Blocks are linked in buckets by a number made of these bytes, so that a search
 // looks at few blocks, however many there are.
+// Rows have a fixed length here, since the desk has no heap; 0 stands for no place, as in the book's own fields.
 #![tactic(auto)]
 
-ghost use Rattle.std.specs.Prelude.{◌≡◌, true, ◌-◌, ◌/◌, ◌≤◌, ◌<◌, length};
+ghost use Rattle.std.specs.Prelude.{◌≡◌, Bool, List, ℕ, ◌/◌, ◌≤◌, ◌<◌, length, IfSome};
+ghost use Rattle.std.specs.Fn.{FnReturnsAt};
 ghost use Rattle.laws.specs.Lists.{place};
 ghost use Rattle.laws.specs.Cut.{cut};
-ghost use Rattle.paper.specs.Layout.{zeros};
-ghost use Rattle.index.specs.Linked.{bucket, hashed, alike, own_in, series_in, Links, own_with, Found};
+ghost use Rattle.paper.specs.Layout.{Block};
+ghost use Rattle.index.specs.Linked.{bucket, hashed, alike, own_in, series_in, Links, Told, own_with, FoundBy, Found};
 
 use field::same;
 use layout::{id_of, pair, parties_and_agreement};
 use paper::Slot;
 use slots::{block_at, is_series, is_series_of, same_key, same_trade};
 
+pub mod buckets;
 pub mod rights;
 pub mod tags;
 
+use buckets::{Buckets, link};
 use tags::key_tag_of;
-
-// No bucket has a first block.
-pub fn no_heads() -> [u16; 1024]
-    ensures { (zeros result ≡ true) × (length result ≡ 1024) }
-{
-    [0; 1024]
-}
-
-// No block has a next one.
-pub fn no_nexts() -> [u16; 1000]
-    ensures { length result ≡ 1000 }
-{
-    [0; 1000]
-}
 
 // One of 1,024.
 pub fn bucket(v: &[u8]) -> usize
@@ -79,38 +69,19 @@ pub fn wide(place: u16) -> usize
     place as usize
 }
 
-// Block i - 1, if it is a series of the sender: what was its bucket's first block is now the second.
-fn link_own_block(
-    us: &[u8],
-    slot: Slot,
-    by: By,
-    i: usize,
-    heads: &mut [u16; 1024],
-    nexts: &mut [u16; 1000],
-)
-    requires { (0 < i) × (i ≤ length us.now / 512) × (i ≤ 1000) × Links (own_in slot.0 by) (cut 512 us.now) i heads.old nexts.old }
-    ensures { Links (own_in slot.0 by) (cut 512 us.now) (i - 1) heads.new nexts.new }
+// The bucket of a series of the sender.
+fn own_bucket(x: &[u8], slot: Slot, by: By) -> Option<usize>
+    ensures { Told (own_in slot.0 by) x.now result × IfSome result (λ g. g < 1024) }
 {
-    let x = block_at(us, i - 1);
-    if !is_series_of(x, slot) {
-        return;
-    }
-    let g = bucket(hashed(by, x));
-    nexts[i - 1] = heads[g];
-    heads[g] = i as u16;
+    is_series_of(x, slot).then(|| bucket(hashed(by, x)))
 }
 
-// The series of the sender in a slot, from the last back.
-pub fn link_own(us: &[u8], slot: Slot, by: By, heads: &mut [u16; 1024], nexts: &mut [u16; 1000])
-    requires { (length us.now / 512 ≤ 1000) × (zeros heads.old ≡ true) × (length heads.old ≡ 1024) × (length nexts.old ≡ 1000) }
-    ensures { Links (own_in slot.0 by) (cut 512 us.now) 0 heads.new nexts.new }
+// The series of the sender in a slot.
+pub fn link_own(us: &[u8], slot: Slot, by: By) -> Buckets
+    requires { length us.now / 512 ≤ 1000 }
+    ensures { Links (own_in slot.0 by) (cut 512 us.now) 0 result.heads result.nexts }
 {
-    let own = slot.0;
-    let mut i = us.len() / 512;
-    while 0 < i {
-        link_own_block(us, Slot(own), by, i, heads, nexts);
-        i -= 1;
-    }
+    link(us, |x| own_bucket(x, slot, by))
 }
 
 fn is_own_with(x: &[u8], slot: Slot, by: By, y: &[u8]) -> bool
@@ -120,48 +91,23 @@ fn is_own_with(x: &[u8], slot: Slot, by: By, y: &[u8]) -> bool
 }
 
 // The place of the first of them that has what y is sought by; 0 where none has it.
-pub fn own_with(
-    us: &[u8],
-    slot: Slot,
-    by: By,
-    y: &[u8],
-    heads: &[u16; 1024],
-    nexts: &[u16; 1000],
-) -> usize
-    requires { (length us.now / 512 ≤ 1000) × Links (own_in slot.0 by) (cut 512 us.now) 0 heads.now nexts.now }
+pub fn own_with(us: &[u8], slot: Slot, by: By, y: &[u8], buckets: &Buckets) -> usize
+    requires { Links (own_in slot.0 by) (cut 512 us.now) 0 buckets.now.heads buckets.now.nexts }
     ensures { (result ≡ place (own_with slot.0 by y.now) (cut 512 us.now)) × (result ≤ 1000) }
 {
-    let own = slot.0;
-    let mut at = wide(heads[bucket(hashed(by, y))]);
-    while at != 0 {
-        if is_own_with(block_at(us, at - 1), Slot(own), by, y) {
-            return at;
-        }
-        at = wide(nexts[at - 1]);
-    }
-    at
+    buckets.find(
+        bucket(hashed(by, y)),
+        |i| is_own_with(block_at(us, i), slot, by, y),
+    )
 }
 
-// Of each block of `of` the place in `us` of the sender's first series like it, for as many turns as there are blocks.
-fn find_each(
-    us: &[u8],
-    slot: Slot,
-    by: By,
-    heads: &[u16; 1024],
-    nexts: &[u16; 1000],
-    of: &[u8],
-    found: &mut [u16; 1000],
-)
-    requires { (length us.now / 512 ≤ 1000) × Links (own_in slot.0 by) (cut 512 us.now) 0 heads.now nexts.now × (length of.now / 512 ≤ 1000) × (length found.old ≡ 1000) }
-    ensures { Found slot.0 by (cut 512 us.now) (cut 512 of.now) found.new }
+// Of each block of `of` the place that `find` gives, for as many turns as there are blocks.
+fn find_each<F: Fn(&[u8]) -> u16>(of: &[u8], find: F, found: &mut [u16; 1000])
+    requires { F.IsAlwaysCallable find × (length of.now / 512 ≤ 1000) × (length found.old ≡ 1000) }
+    ensures { (sought : Block → Block → Bool) (l : List Block) → ((y : Block) (n : ℕ) → FnReturnsAt F.Fn find y n → n ≡ place (sought y) l) → FoundBy sought l (cut 512 of.now) found.new }
 {
-    let own = slot.0;
-    let blocks = of.len() / 512;
-    let mut k = 0;
-    while k < blocks {
-        let y = block_at(of, k);
-        found[k] = own_with(us, Slot(own), by, y, heads, nexts) as u16;
-        k += 1;
+    for k in 0..of.len() / 512 {
+        found[k] = find(block_at(of, k));
     }
 }
 
@@ -171,35 +117,21 @@ pub fn look_up(us: &[u8], slot: Slot, by: By, of: &[u8], found: &mut [u16; 1000]
     requires { (length us.now / 512 ≤ 1000) × (length of.now / 512 ≤ 1000) × (length found.old ≡ 1000) }
     ensures { Found slot.0 by (cut 512 us.now) (cut 512 of.now) found.new }
 {
-    let own = slot.0;
-    let mut heads = no_heads();
-    let mut nexts = no_nexts();
-    link_own(us, Slot(own), by, &mut heads, &mut nexts);
-    find_each(us, Slot(own), by, &heads, &nexts, of, found);
+    let buckets = link_own(us, slot, by);
+    find_each(of, |y| own_with(us, slot, by, y, &buckets) as u16, found);
 }
 
-// Block i - 1, if it is a series.
-fn link_series_block(us: &[u8], i: usize, heads: &mut [u16; 1024], nexts: &mut [u16; 1000])
-    requires { (0 < i) × (i ≤ length us.now / 512) × (i ≤ 1000) × Links series_in (cut 512 us.now) i heads.old nexts.old }
-    ensures { Links series_in (cut 512 us.now) (i - 1) heads.new nexts.new }
+// The bucket of a series.
+fn series_bucket(x: &[u8]) -> Option<usize>
+    ensures { Told series_in x.now result × IfSome result (λ g. g < 1024) }
 {
-    let x = block_at(us, i - 1);
-    if !is_series(x) {
-        return;
-    }
-    let g = bucket(pair(x));
-    nexts[i - 1] = heads[g];
-    heads[g] = i as u16;
+    is_series(x).then(|| bucket(pair(x)))
 }
 
 // All series, whosever they are, by their pair.
-pub fn link_series(us: &[u8], heads: &mut [u16; 1024], nexts: &mut [u16; 1000])
-    requires { (length us.now / 512 ≤ 1000) × (zeros heads.old ≡ true) × (length heads.old ≡ 1024) × (length nexts.old ≡ 1000) }
-    ensures { Links series_in (cut 512 us.now) 0 heads.new nexts.new }
+pub fn link_series(us: &[u8]) -> Buckets
+    requires { length us.now / 512 ≤ 1000 }
+    ensures { Links series_in (cut 512 us.now) 0 result.heads result.nexts }
 {
-    let mut i = us.len() / 512;
-    while 0 < i {
-        link_series_block(us, i, heads, nexts);
-        i -= 1;
-    }
+    link(us, |x| series_bucket(x))
 }

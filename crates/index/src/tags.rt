@@ -9,7 +9,7 @@ use field::part_of;
 fn mixed(t: u32, w: u32) -> u32
     ensures { result ≡ mixed t w }
 {
-    ((1000003 * (t as u64) + w as u64) % 4294967296) as u32
+    t.wrapping_mul(1000003).wrapping_add(w)
 }
 
 // Of a field of sixteen bytes: their four numbers are read with no further test.

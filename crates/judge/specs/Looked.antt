@@ -1,19 +1,19 @@
 -- Which series have the same id or the same key, and on which right each is sent: found once, handed down to the rules and on to the acceptance.
-use Rattle.std.specs.Prelude.{◌≡◌, true, List, ℕ, ◌≤◌, length}
+use Rattle.std.specs.Prelude.{◌≡◌, true, List, ℕ, ◌≤◌, length, Result, IfOk}
 use Rattle.laws.specs.Lists.{apart, All}
 use Rattle.paper.specs.declared.Verdict.{Verdict}
 use Rattle.paper.specs.Layout.{Bytes, Block, sender}
 use Rattle.paper.specs.Book.{used, is_series_of}
 use Rattle.paper.specs.Message.{head_of, series_of}
 use Rattle.paper.specs.Sound.{same_series}
-use Rattle.paper.specs.Rules.{number_of, verdict}
+use Rattle.paper.specs.Rules.{verdict}
 use Rattle.index.specs.declared.By.TheVariants.{Id, Key}
 use Rattle.index.specs.Linked.{Found}
 use Rattle.index.specs.Rights.{FoundRights}
 use Rattle.index.specs.Handed.{Handed}
 use Rattle.judge.specs.declared.series.Searched.{Searched}
 use Rattle.judge.specs.declared.Judged.{Judged}
-use Rattle.judge.specs.Order.{each_series_of, judged_by}
+use Rattle.judge.specs.Order.{Gives}
 
 -- us are the used slots of a sound book, series those of a message that rule 2 lets pass
 pub record Taken (us series : List Block) : Type 0 where
@@ -34,17 +34,7 @@ abbrev pub LookedIn : (us : List Block) (message : Bytes) (found : Searched) (pl
 LookedIn us message found places =
     Looked us (sender (head_of message)) (series_of message) found.slot found.first_ids found.first_keys found.stored_ids found.rights places
 
--- the verdict on a message's series, and the slot of each
-pub record Walked (v : Verdict) (d : Block) (us : List Block) (slot : ℕ) (message : Bytes) (places : List ℕ) : Type 0 where
-  pub verdict : v ≡ each_series_of d us slot message
-  pub stored : Found slot Key us (series_of message) places
-
--- the verdict past rules 1 and 2; and of a message that passes, of each of its series the slot, and of each used slot the message's series with its key
-pub record JudgedFrom (v : Verdict) (d : Block) (us : List Block) (slot free : ℕ) (message : Bytes) (places numbers : List ℕ) : Type 0 where
-  pub verdict : v ≡ judged_by d us free message
-  pub found : number_of v ≡ 0 → Found slot Key us (series_of message) places × Found 0 Key (series_of message) us numbers
-
 -- the verdict, and what is handed on to the acceptance, if there is one
-pub record JudgedBook (r : Judged) (book message : Bytes) (places numbers : List ℕ) : Type 0 where
-  pub verdict : r.verdict ≡ verdict book message
-  pub handed : number_of r.verdict ≡ 0 → Handed (used book) (head_of message) (series_of message) r.used r.slot places numbers
+pub record JudgedBook (r : Result Judged Verdict) (book message : Bytes) (places numbers : List ℕ) : Type 0 where
+  pub verdict : Gives r (verdict book message)
+  pub handed : IfOk r (λ j. Handed (used book) (head_of message) (series_of message) j.used j.slot.0 places numbers)

@@ -1,13 +1,23 @@
 -- The order of checks past rules 1 and 2, by what is found before they are judged.
-use Rattle.std.specs.Prelude.{Bool, List, [], ℕ, ◌+◌, get_or}
+use Rattle.std.specs.Prelude.{◌≡◌, Bool, List, [], ℕ, ◌+◌, get_or, Result, Ok, Err, IfErr}
 use Rattle.laws.specs.Lists.{keep}
 use Rattle.paper.specs.declared.Verdict.{Verdict}
 use Rattle.paper.specs.Layout.{Bytes, Block, n_of, sender}
 use Rattle.paper.specs.Book.{numbered, is_series_of, own_sender, own_series, own_rights}
 use Rattle.paper.specs.Message.{head_of, series_of}
-use Rattle.paper.specs.Rules.{◌then◌, broken, broken_by, over_positions, rule8, wrong_character, rule9, rule10, quantity_verdict, late_verdict, each_series, last_verdict, judge}
+use Rattle.paper.specs.Rules.{fine, number_of, ◌then◌, broken, broken_by, over_positions, rule8, wrong_character, rule9, rule10, quantity_verdict, late_verdict, each_series, last_verdict, judge}
 use Rattle.rules.specs.ByPlaces.{rule7_by, rule18_by, rule19_by}
 use Rattle.judge.specs.declared.series.Told.{Told}
+
+-- what a check has found: Ok where no rule is broken, else Err with the verdict of the first that is
+abbrev pub verdict_in : {T : Type 0} → Result T Verdict → Verdict
+verdict_in (Ok x) = fine
+verdict_in (Err w) = w
+
+-- it is the verdict v, and an Err is a refusal
+pub record Gives {T : Type 0} (found : Result T Verdict) (v : Verdict) : Type 0 where
+  pub verdict : verdict_in found ≡ v
+  pub refusal : IfErr found (λ w. number_of w ≡ 0 → ⊥)
 
 -- rules 7 to 10 on the series y, by whether another has its id or its key
 unfoldable pub form_by : (day head : Block) (otherwise : Bool) (number : ℕ) (y : Block) → Verdict

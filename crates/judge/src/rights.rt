@@ -1,12 +1,13 @@
 // Rules 18 and 19. The sums on one right are kept from one series of a message to the next, so that many series on it cost no more than each its
 // own quantities; where a series on another right comes, the sums are made anew from the earlier ones.
+// Rows have a fixed length here, since the desk has no heap; 0 stands for no place, as in the book's own fields.
 ghost use Rattle.std.specs.Prelude.{◌≡◌, true, ◌+◌, ◌/◌, ◌≤◌, ◌<◌, length, get_or};
 ghost use Rattle.laws.specs.Cut.{cut};
 ghost use Rattle.paper.specs.Rules.{over_positions};
-ghost use Rattle.judge.specs.Order.{limit_by, right_by};
+ghost use Rattle.judge.specs.Order.{Gives, limit_by, right_by};
 ghost use Rattle.judge.specs.Sums.{SumsTo, Cleared, Added, AtMost, Kept};
 
-use super::order::{fine, verdict_of};
+use super::order::broken;
 use index::wide;
 use layout::quantity;
 use paper::{Slot, Verdict};
@@ -17,10 +18,8 @@ fn clear(sums: &mut [u64; 100])
     requires { length sums.old ≡ 100 }
     ensures { Cleared 100 sums.new }
 {
-    let mut k = 0;
-    while k < 100 {
+    for k in 0..100 {
         sums[k] = 0;
-        k += 1;
     }
 }
 
@@ -29,10 +28,8 @@ fn add_quantities(sums: &mut [u64; 100], y: &[u8])
     requires { AtMost 199 sums.old }
     ensures { Added true 100 y.now sums.old sums.new }
 {
-    let mut k = 0;
-    while k < 100 {
-        sums[k] = sums[k] + quantity(y, k) as u64;
-        k += 1;
+    for k in 0..100 {
+        sums[k] += quantity(y, k) as u64;
     }
 }
 
@@ -51,10 +48,8 @@ fn sum_again(series: &[u8], rights: &[u16; 1000], right: u16, count: usize, sums
     ensures { SumsTo rights.now (cut 512 series.now) right count sums.new × AtMost count sums.new }
 {
     clear(sums);
-    let mut j = 0;
-    while j < count {
+    for j in 0..count {
         add_if(sums, rights[j] == right, block_at(series, j));
-        j += 1;
     }
 }
 
@@ -82,18 +77,14 @@ pub fn sums_with(
     right
 }
 
-// Rule 19 by ascending position: no verdict is made of a position that passes.
-fn limit_verdict(n: usize, r: &[u8], sums: &[u64; 100], s: usize, y: &[u8]) -> Verdict
-    ensures { result ≡ over_positions (limit_by n r.now sums.now s y.now) }
+// Rule 19 by ascending position.
+fn limit_verdict(n: usize, r: &[u8], sums: &[u64; 100], s: usize, y: &[u8]) -> Result<(), Verdict>
+    ensures { Gives result (over_positions (limit_by n r.now sums.now s y.now)) }
 {
-    let mut k = 0;
-    while k < 100 {
-        if rule_19(n, r, sums[k], y, k) {
-            return verdict_of(19, s, k + 1, 0);
-        }
-        k += 1;
+    for k in 0..100 {
+        broken(rule_19(n, r, sums[k], y, k), 19, s, k + 1)?;
     }
-    fine()
+    Ok(())
 }
 
 // A series on no right, as every trade, is asked nothing more.
@@ -104,14 +95,12 @@ pub fn right_verdict(
     sums: &[u64; 100],
     s: usize,
     y: &[u8],
-) -> Verdict
-    ensures { result ≡ right_by n (cut 512 us.now) right sums.now s y.now }
+) -> Result<(), Verdict>
+    ensures { Gives result (right_by n (cut 512 us.now) right sums.now s y.now) }
 {
     if !with_capacity(y) {
-        return fine();
+        return Ok(());
     }
-    if rule_18(y, right) {
-        return verdict_of(18, s, 0, 0);
-    }
+    broken(rule_18(y, right), 18, s, 0)?;
     limit_verdict(n, numbered(us, Slot(wide(right))), sums, s, y)
 }

@@ -4,6 +4,7 @@ use Rattle.laws.specs.Bytes.{written, little}
 use Rattle.paper.specs.Layout.{Bytes, Block}
 use Rattle.paper.specs.Opening.{Opening}
 use Rattle.layout.specs.declared.write.Field.{Field}
+use Rattle.layout.specs.declared.write.Parameters.{Parameters}
 
 -- ---- numbers
 
@@ -18,6 +19,10 @@ unfoldable pub with_business_type : ℕ → Block → Block
 with_business_type business x = set x 4 business
 
 -- ---- fields of bytes
+
+-- the parameters as the code holds them
+abbrev pub opening_by : Parameters → Opening
+opening_by p = record { n = p.n; lead = p.lead; rule = p.rule; day = p.day.now; area = p.area.now; receiver = p.receiver.now }
 
 -- the fields of a day block that an opening gives
 unfoldable pub with_day_fields : Opening → Block → Block

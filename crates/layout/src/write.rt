@@ -1,8 +1,10 @@
 // The fields of a block written by name, beside their readers. Bytes past a block's end are passed over, as the definitions have it. Only the
 // fields that go alone into a block that is kept (clock, mark) put its check right with them.
+#![tactic(auto, unfolding(paper::specs::Layout::with_clock, paper::specs::Layout::with_mark, crate::specs::Written::with_front, crate::specs::Written::with_day_fields, crate::specs::Written::with_series_count, crate::specs::Written::with_business_type, crate::specs::Written::with_quantity))]
+
 ghost use Rattle.std.specs.Prelude.{◌≡◌, ◌+◌, ◌<◌, ◌≤◌, length};
 ghost use Rattle.paper.specs.Layout.{with_clock, with_senders_slot, with_mark};
-ghost use Rattle.layout.specs.Written.{with_front, with_day_fields, with_series_count, with_business_type, with_field, with_quantity, with_entries};
+ghost use Rattle.layout.specs.Written.{with_front, opening_by, with_day_fields, with_series_count, with_business_type, with_field, with_quantity, with_entries};
 
 use block::check::seal;
 use block::numbers::{byte_or_zero, put_byte, write_2, write_4, write_bytes};
@@ -19,23 +21,26 @@ pub fn write_front(b: &mut [u8], kind: u8, n: u8, number: u16)
     write_2(b, 2, number);
 }
 
+// What an opening gives, in this order.
+#[derive(Clone, Copy)]
+pub struct Parameters<'a> {
+    pub n: u8,
+    pub lead: u16,
+    pub rule: Rule,
+    pub day: &'a [u8],
+    pub area: &'a [u8],
+    pub receiver: &'a [u8],
+}
+
 // All that an opening gives; the clock and the bytes shown as 0 stay.
-pub fn write_day_fields(
-    d: &mut [u8],
-    n: u8,
-    lead: u16,
-    rule: Rule,
-    day: &[u8],
-    area: &[u8],
-    receiver: &[u8],
-)
-    ensures { d.new ≡ with_day_fields (record { n = n; lead = lead; rule = rule; day = day.now; area = area.now; receiver = receiver.now }) d.old }
+pub fn write_day_fields(d: &mut [u8], given: &Parameters)
+    ensures { d.new ≡ with_day_fields (opening_by given.now) d.old }
 {
-    write_front(d, 3, n, lead);
-    put_byte(d, 6, rule.0);
-    write_bytes(d, 8, day);
-    write_bytes(d, 24, area);
-    write_bytes(d, 40, receiver);
+    write_front(d, 3, given.n, given.lead);
+    put_byte(d, 6, given.rule.0);
+    write_bytes(d, 8, given.day);
+    write_bytes(d, 24, given.area);
+    write_bytes(d, 40, given.receiver);
 }
 
 // The check is put right with the clock.
@@ -92,11 +97,8 @@ pub fn write_field(b: &mut [u8], field: Field, v: &[u8])
     ensures { b.new ≡ with_field field v.now b.old }
 {
     let at = field.at;
-    let width = field.width;
-    let mut i = 0;
-    while i < width {
+    for i in 0..field.width {
         b[at + i] = byte_or_zero(v, i);
-        i += 1;
     }
 }
 
@@ -115,9 +117,7 @@ pub fn write_entries(b: &mut [u8], v: &[u32])
     requires { length v.now ≡ 100 }
     ensures { b.new ≡ with_entries v.now b.old }
 {
-    let mut k = 0;
-    while k < 100 {
-        write_quantity(b, k, v[k]);
-        k += 1;
+    for (k, kilowatts) in v.iter().enumerate() {
+        write_quantity(b, k, *kilowatts);
     }
 }

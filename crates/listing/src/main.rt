@@ -1,5 +1,6 @@
 // Lists the book that it reads from standard input. What it writes is the text of the definition `listing`: that of a sound book of at most 64 blocks, or
 // why there is none. It has no exit status of its own, unless its input cannot be read or its text not be written: the text tells.
+// Buffers have a fixed length here, since the desk has no heap.
 #![tactic(auto)]
 
 use field::part_of;

@@ -1,6 +1,7 @@
 // The listing's text, in a buffer that the caller lends: a header, then one line per series by ascending slot, with the kept marks. Every function that
 // puts a text takes the place where it starts and answers the place behind it; what would fall past the buffer's end is left out. The bounds on
 // places are wide: they only keep sums from wrapping.
+// Buffers have a fixed length here, since the desk has no heap.
 #![tactic(auto)]
 
 ghost use Rattle.std.specs.Prelude.{◌≡◌, cond, [], ◌∷◌, ◌++◌, ◌+◌, ◌/◌, ◌<◌, ◌≤◌, length, get_or, set};
@@ -31,12 +32,10 @@ fn put_text(s: &[u8], at: usize, out: &mut [u8]) -> usize
     requires { (at < 60000) × (length s.now ≤ 47) }
     ensures { Appended at s.now out.old result out.new }
 {
-    let mut i = 0;
-    while i < s.len() {
-        put_byte(s[i], at + i, out);
-        i += 1;
+    for (i, x) in s.iter().enumerate() {
+        put_byte(*x, at + i, out);
     }
-    at + i
+    at + s.len()
 }
 
 // A word of a line, with the space or the newline behind it.
@@ -63,17 +62,17 @@ fn put_names(us: &[u8], slot: Slot, x: &[u8], at: usize, out: &mut [u8]) -> usiz
     requires { (at < 50000) × (slot.0 ≤ 63) }
     ensures { Appended at (names (cut 512 us.now) slot.0 x.now) out.old result out.new × (result ≤ at + 39) }
 {
-    let at = put_number(slot.0 as u32, 32, at, out);
-    let at = put_word(sender(numbered(us, senders_slot(x))), 32, at, out);
-    put_word(id_text(id_of(x)), 32, at, out)
+    let at = put_number(slot.0 as u32, b' ', at, out);
+    let at = put_word(sender(numbered(us, senders_slot(x))), b' ', at, out);
+    put_word(id_text(id_of(x)), b' ', at, out)
 }
 
 fn put_parties(x: &[u8], at: usize, out: &mut [u8]) -> usize
     requires { at < 50000 }
     ensures { Appended at (parties x.now) out.old result out.new × (result ≤ at + 34) }
 {
-    let at = put_word(in_party(x), 32, at, out);
-    put_word(out_party(x), 32, at, out)
+    let at = put_word(in_party(x), b' ', at, out);
+    put_word(out_party(x), b' ', at, out)
 }
 
 // A position and a slot as the numbers that a line shows.
@@ -97,9 +96,9 @@ fn put_mark(x: &[u8], at: usize, out: &mut [u8]) -> usize
     let differing = differing(x) as u32;
     let first = first_number(x);
     let partner = partner_number(x);
-    let at = put_number(differing, 32, at, out);
-    let at = put_number(first, 32, at, out);
-    put_number(partner, 10, at, out)
+    let at = put_number(differing, b' ', at, out);
+    let at = put_number(first, b' ', at, out);
+    put_number(partner, b'\n', at, out)
 }
 
 // No line is longer than 88 bytes: four numbers of at most four digits, four words of at most sixteen bytes, and what ends each.
@@ -128,12 +127,9 @@ fn put_lines(us: &[u8], at: usize, out: &mut [u8]) -> usize
     requires { (at ≤ 47) × (length us.now / 512 ≤ 63) }
     ensures { Appended at (series_lines (cut 512 us.now) 1 (cut 512 us.now)) out.old result out.new }
 {
-    let many = us.len() / 512;
     let mut place = at;
-    let mut i = 0;
-    while i < many {
+    for i in 0..us.len() / 512 {
         place = put_slot(us, i, place, out);
-        i += 1;
     }
     place
 }

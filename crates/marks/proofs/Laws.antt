@@ -1,6 +1,7 @@
 -- A counterpart is linked in the bucket of its pair, and an external schedule has none; count and first position by position, and the mark from the numbers that the code finds.
-use Rattle.std.specs.Prelude.{◌≡◌, ◌∷◌, ◌+◌, ◌≤◌, ◌<◌}
-use Rattle.laws.specs.Kit.{refl, sym, ap, ◌∙◌, true, false, cond, List, [], ℕ, arith, is, split, clash, is_equal, and_both}
+use Rattle.std.specs.Prelude.{◌≡◌, ◌∷◌, ◌+◌, ◌≤◌, ◌<◌, Option, None, Some, IfSome}
+use Rattle.std.specs.Option.{unwrap_or, option_or}
+use Rattle.laws.specs.Kit.{refl, sym, ap, ◌∙◌, true, false, cond, List, [], ℕ, arith, is, split, clash, is_equal, is_other, and_both}
 use Rattle.laws.specs.Lists.{same}
 use Rattle.laws.specs.Lists.Same.{same_yes}
 use Rattle.laws.specs.Lists.Each.{all_each}
@@ -67,6 +68,23 @@ module _ (k u v : ℕ) (x y : Block) (l : k < 100) (d : u ≡ quantity x k) (e :
   found_other q r z =
       let h : entry (quantities x) k ≡ entry (quantities y) k → ⊥ = λ w. q (sym entries.0 ∙ w ∙ entries.1) in
       record { count = ap (λ s. s + 1) i.count ∙ sym (differences_where_other _ _ k h); first = z ∙ ap (λ s. cond (is s 0) (k + 1) s) i.first ∙ sym (first_where_other _ _ k h) }
+
+-- the first one found stays; positions are counted from 1
+module _ (o : Option ℕ) (i : IfSome o (λ v. 0 < v)) (p : ℕ) where
+  pub first_stays : unwrap_or (option_or o (Some p)) 0 ≡ cond (is (unwrap_or o 0) 0) p (unwrap_or o 0)
+  unfolding is
+  first_stays = by o i
+    where
+      by : (o : Option ℕ) → IfSome o (λ v. 0 < v) → unwrap_or (option_or o (Some p)) 0 ≡ cond (is (unwrap_or o 0) 0) p (unwrap_or o 0)
+      by None h = refl
+      by (Some v) h = let e : is v 0 ≡ false = is_other v 0 (λ q. absurd (omega (arith, h, q))) in rw e
+
+  pub first_above : 0 < p → IfSome (option_or o (Some p)) (λ v. 0 < v)
+  first_above h = by o i
+    where
+      by : (o : Option ℕ) → IfSome o (λ v. 0 < v) → IfSome (option_or o (Some p)) (λ v. 0 < v)
+      by None k = h
+      by (Some v) k = k
 
 -- ---- the mark, where t is the slot of the counterpart
 

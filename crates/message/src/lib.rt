@@ -1,5 +1,5 @@
 // Rule 2, and the parts of a message.
-#![tactic(auto)]
+#![tactic(auto, using(layout::proofs::Tests::tests), unfolding(paper::specs::Message::head_right, paper::specs::Message::series_right, paper::specs::Message::rule2))]
 
 ghost use Rattle.std.specs.Prelude.{◌≡◌};
 ghost use Rattle.laws.specs.Lists.{every};
@@ -9,7 +9,7 @@ ghost use Rattle.paper.specs.Message.{head_of, series_of, head_right, series_rig
 use block::check::checks_right;
 use field::part_of;
 use layout::{n_of, sender_zeros_in_message, series_count, series_zeros_in_message};
-use slots::{block_at, is_sender, is_series};
+use slots::{is_sender, is_series};
 use sound_blocks::ranges::whole_blocks;
 
 // The sender's block; of a message that is too short, what there is.
@@ -44,14 +44,7 @@ fn series_right(h: &[u8], y: &[u8]) -> bool
 fn all_series_right(h: &[u8], series: &[u8]) -> bool
     ensures { result ≡ every (series_right h.now) (cut 512 series.now) }
 {
-    let many = series.len() / 512;
-    let mut right = true;
-    let mut i = 0;
-    while i < many {
-        right = right & series_right(h, block_at(series, i));
-        i += 1;
-    }
-    right
+    series.chunks_exact(512).all(|y| series_right(h, y))
 }
 
 // The length is looked at before the bytes: a slice of any size costs no more than the largest message.

@@ -1,1 +1,2 @@
 pub mod MessageText
+pub mod Rows

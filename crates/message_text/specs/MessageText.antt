@@ -1,6 +1,6 @@
 -- The text form of a message and of a right: what each line makes of their blocks. The lines are laid into blocks of zeros; a wrong one ends the reading, and only
 -- what is laid of a text without one is copied into the buffer.
-use Rattle.std.specs.Prelude.{◌≡◌, Bool, true, false, cond, List, [], ◌∷◌, ◌++◌, ℕ, zero, suc, ◌+◌, ◌-◌, ◌*◌, min, length, take, drop, replicate}
+use Rattle.std.specs.Prelude.{◌≡◌, ◌≤◌, ◌<◌, Option, MatchOption, Result, MatchResult, Bool, true, false, cond, List, [], ◌∷◌, ◌++◌, ℕ, zero, suc, ◌+◌, ◌-◌, ◌*◌, min, length, take, drop, replicate}
 use Rattle.laws.specs.Tests.{◌and◌, ◌or◌, neg, is, less, upto}
 use Rattle.laws.specs.Lists.{same}
 use Rattle.laws.specs.Bytes.{part, little}
@@ -10,13 +10,18 @@ use Rattle.paper.specs.QuantityText.{quantity_read}
 use Rattle.paper.specs.Listing.{text}
 use Rattle.layout.specs.declared.write.Field.{Field}
 use Rattle.layout.specs.Written.{with_front, with_series_count, with_business_type, with_field, with_quantity}
-use Rattle.message_text.specs.declared.Laid.{Laid}
+use Rattle.message_text.specs.declared.WrongLine.{WrongLine}
 use Rattle.message_text.specs.declared.TextRead.{TextRead}
-use Rattle.message_words.specs.Words.{lines, word, value, skipped, number_of, first_of, last_of}
+use Rattle.std.specs.Borrow.{Bor}
+use Rattle.message_words.specs.Words.{before, behind, lines, word, value, skipped, number_of, first_of, last_of}
 
 -- a function gives p: its answer is r, and the bytes that were lent to it are x
 abbrev pub Gives : {A : Type 0} → A × Bytes → A → Bytes → Type 0
 Gives p r x = (r ≡ p.0) × (x ≡ p.1)
+
+-- the first line of a text, and what is behind it, which is shorter; none of an empty text
+abbrev pub FirstLine : Bytes → Option (Bor Bytes × Bor Bytes) → Type 0
+FirstLine t r = MatchOption r (length t ≡ 0) (λ p. (0 < length t) × (p.0.now ≡ before 10 t) × (p.1.now ≡ behind 10 t) × (length p.1.now < length t))
 
 -- ---- where a value stands in its block
 
@@ -81,8 +86,17 @@ in_block w v x = in_field (field_of (kind x) w) w v x
 
 -- ---- a line in blocks of which the first is followed by some series so far
 
+-- what became of a line: whether it was fine, and how many series there are now
+pub record Laid : Type 0 where
+  pub fine : Bool
+  pub series : ℕ
+
 abbrev pub laid : Bool → ℕ → Laid
 laid fine series = record { fine = fine; series = series }
+
+-- a function lays a line as p says: its answer is the number of series, or that the line is wrong, and the bytes that were lent to it are x. The series fit
+abbrev pub Lays : Laid × Bytes → Option ℕ → Bytes → Type 0
+Lays p r x = (MatchOption r (p.0.fine ≡ false) (λ s. (p.0 ≡ laid true s) × (512 * (s + 1) ≤ length x))) × (x ≡ p.1)
 
 -- blocks with another in the place of the 512 bytes from an offset on
 unfoldable pub with_block : ℕ → Block → Bytes → Bytes
@@ -129,6 +143,14 @@ wrong_at line = record { line = line; length = 0 }
 unfoldable pub with_lines : (k : ℕ) → Laid × Bytes → List Bytes → TextRead × Bytes
 with_lines k m [] = cond m.0.fine (record { line = 0; length = 512 * (m.0.series + 1) }, m.1) (wrong_at k, m.1)
 with_lines k m (l ∷ ls) = cond m.0.fine (with_lines (k + 1) (with_line m.0.series l m.1) ls) (wrong_at k, m.1)
+
+-- a function reads a text as p says: its answer is how many bytes are laid, or the wrong line, and the bytes that were lent to it are x
+abbrev pub Reads : TextRead × Bytes → Result ℕ WrongLine → Bytes → Type 0
+Reads p r x = (MatchResult r (λ n. (p.0 ≡ record { line = 0; length = n }) × (n ≤ length x)) (λ e. p.0 ≡ wrong_at e.0)) × (x ≡ p.1)
+
+-- the same as one answer
+abbrev pub Tells : Result ℕ WrongLine → TextRead → Type 0
+Tells r t = MatchResult r (λ n. t ≡ record { line = 0; length = n }) (λ e. t ≡ wrong_at e.0)
 
 -- into zeros, behind a first block of a kind; where there is no room even for that it is line 1
 unfoldable pub text_laid : (kind business : ℕ) (t zeros : Bytes) → TextRead × Bytes

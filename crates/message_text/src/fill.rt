@@ -1,14 +1,14 @@
 // The fields of a block, each as a line says it. The answer is whether the value is fine; what is written is written all the same.
 ghost use Rattle.std.specs.Prelude.{◌≡◌, ◌+◌, ◌-◌, ◌≤◌, length};
 ghost use Rattle.laws.specs.Tests.{◌and◌, neg, is, less, upto};
-ghost use Rattle.message_words.specs.Words.{lines};
-ghost use Rattle.message_text.specs.MessageText.{Gives, between, field_in, field_of, most, with_number, with_text};
+ghost use Rattle.message_text.specs.MessageText.{Gives, between, field_of, most, with_number, with_text};
+ghost use Rattle.message_text.specs.Rows.{field_by};
 ghost use Rattle.message_text.specs.MessageText.{spread, with_positions, in_field, in_block};
 
 use field::same;
 use layout::kind;
 use layout::write::{Field, write_field, write_quantity};
-use message_words::{first_of, last_of, line_at, next_line, number_of, value, word};
+use message_words::{first_of, last_of, number_of, value, word};
 use quantity::quantity_read;
 
 // ---- where a value stands
@@ -25,18 +25,30 @@ fn between(first: u32, last: u32) -> Field
     Field { at: 0, width: 0 }
 }
 
-// A table is a text of the same form, and read by the same functions: a word, and from which byte to which its value stands.
-fn field_in(table: &[u8], w: &[u8]) -> Field
-    ensures { (result ≡ field_in (lines table.now) w.now) × (result.at + result.width ≤ 512) }
+// A row of a table: a word, and where its value stands.
+#[derive(Clone, Copy)]
+struct Row {
+    word: &'static [u8],
+    field: Field,
+}
+
+// By the value's first byte and its last.
+fn stands(word: &'static [u8], first: u32, last: u32) -> Row
+    ensures { (result.word.now ≡ word.now) × (result.field ≡ between first last) }
 {
-    let mut at = 0;
-    while at < table.len() {
-        let line = line_at(table, at);
-        if same(word(line), w) {
-            let v = value(line);
-            return between(first_of(v), last_of(v));
+    Row {
+        word,
+        field: between(first, last),
+    }
+}
+
+fn field_in(rows: &[Row], w: &[u8]) -> Field
+    ensures { result ≡ field_by rows.now w.now }
+{
+    for row in rows {
+        if same(row.word, w) {
+            return row.field;
         }
-        at = next_line(table, at);
     }
     Field { at: 0, width: 0 }
 }
@@ -45,22 +57,44 @@ fn field_in(table: &[u8], w: &[u8]) -> Field
 fn field_of(kind: u8, w: &[u8]) -> Field
     ensures { (result ≡ field_of kind w.now) × (result.at + result.width ≤ 512) }
 {
-    if kind == 1 {
-        return field_in(
-            b"n 1\nversion 2-3\nmessage 8-23\nsender 24-39\nreceiver 40-55\nday 56-63\n",
+    match kind {
+        1 => field_in(
+            &[
+                stands(b"n", 1, 1),
+                stands(b"version", 2, 3),
+                stands(b"message", 8, 23),
+                stands(b"sender", 24, 39),
+                stands(b"receiver", 40, 55),
+                stands(b"day", 56, 63),
+            ],
             w,
-        );
-    }
-    if kind == 2 {
-        return field_in(
-            b"version 2-3\ntype 4\ncontract 5\narea 24-55\nin-area 24-39\nout-area 40-55\nin 56-71\nout 72-87\nagreement 88-103\n",
+        ),
+        2 => field_in(
+            &[
+                stands(b"version", 2, 3),
+                stands(b"type", 4, 4),
+                stands(b"contract", 5, 5),
+                stands(b"area", 24, 55),
+                stands(b"in-area", 24, 39), // C-14: the order of the areas is the direction
+                stands(b"out-area", 40, 55), // of a series
+                stands(b"in", 56, 71),
+                stands(b"out", 72, 87),
+                stands(b"agreement", 88, 103),
+            ],
             w,
-        );
+        ),
+        _ => field_in(
+            &[
+                stands(b"n", 1, 1),
+                stands(b"contract", 5, 5),
+                stands(b"in-area", 24, 39),
+                stands(b"out-area", 40, 55),
+                stands(b"holder", 56, 87),
+                stands(b"agreement", 88, 103),
+            ],
+            w,
+        ),
     }
-    field_in(
-        b"n 1\ncontract 5\nin-area 24-39\nout-area 40-55\nholder 56-87\nagreement 88-103\n",
-        w,
-    )
 }
 
 // ---- a value written
@@ -80,10 +114,7 @@ fn put_number(block: &mut [u8], field: Field, v: &[u8]) -> bool
 fn most(field: Field) -> usize
     ensures { (result ≡ most field) × (result ≤ field.width) }
 {
-    if field.width <= 16 {
-        return field.width;
-    }
-    16
+    field.width.min(16)
 }
 
 // At the field's start and at its end: so both areas of an internal trade, and both parties of a right, come of one line.
@@ -110,10 +141,8 @@ fn put_quantities(block: &mut [u8], start: usize, last: usize, kilowatts: u32)
     requires { last ≤ 100 }
     ensures { block.new ≡ spread (last - start) start kilowatts block.old }
 {
-    let mut k = start;
-    while k < last {
+    for k in start..last {
         write_quantity(block, k, kilowatts);
-        k += 1;
     }
 }
 

@@ -1,10 +1,11 @@
 // A text form of a message and of a right, a line for each field, so that a person can write one.
+// Buffers have a fixed length here, since the desk has no heap.
 #![tactic(auto)]
 
 ghost use Rattle.std.specs.Prelude.{◌≡◌, ◌+◌, ◌*◌, ◌≤◌, true, length, replicate};
 ghost use Rattle.paper.specs.Check.{sealed};
 ghost use Rattle.layout.specs.Written.{with_series_count};
-ghost use Rattle.message_text.specs.MessageText.{Gives, in_block, laid, field_laid, new_block, begun, with_line, with_lines};
+ghost use Rattle.message_text.specs.MessageText.{Gives, Lays, Reads, Tells, in_block, laid, field_laid, new_block, begun, with_line, with_lines};
 ghost use Rattle.message_text.specs.MessageText.{text_laid, copied, zeros_for, message_text, right_text};
 ghost use Rattle.message_words.specs.Words.{lines};
 
@@ -14,16 +15,15 @@ use field::{same, within};
 use fill::in_block;
 use layout::write::{ID, write_business_type, write_field, write_front, write_series_count};
 use layout::{kind, n_of, version};
-use message_words::{line_at, next_line, skipped, value, word};
+use lines::first_line;
+use message_words::{skipped, value, word};
 
 pub mod fill;
+mod lines;
 
-// What became of a line: whether it was fine, and how many series there are now.
+// The number of a wrong line, counted from 1.
 #[derive(Clone, Copy)]
-pub struct Laid {
-    pub fine: bool,
-    pub series: usize,
-}
+struct WrongLine(usize);
 
 // The first wrong line, counted from 1, and 0; or 0, and how many bytes are laid.
 #[repr(C)]
@@ -31,6 +31,20 @@ pub struct Laid {
 pub struct TextRead {
     pub line: usize,
     pub length: usize,
+}
+
+impl From<Result<usize, WrongLine>> for TextRead {
+    ghost from_gives = { Tells };
+
+    fn from(laid: Result<usize, WrongLine>) -> TextRead {
+        match laid {
+            Ok(length) => TextRead { line: 0, length },
+            Err(wrong) => TextRead {
+                line: wrong.0,
+                length: 0,
+            },
+        }
+    }
 }
 
 // ---- a line
@@ -45,13 +59,16 @@ fn fill_block(x: &mut [u8], w: &[u8], v: &[u8]) -> bool
     fine
 }
 
-fn lay_field(room: &mut [u8], series: usize, w: &[u8], v: &[u8]) -> Laid
+// A line gives how many series there are now; none where it is wrong.
+fn lay_field(room: &mut [u8], series: usize, w: &[u8], v: &[u8]) -> Option<usize>
     requires { 512 * (series + 1) ≤ length room.old }
-    ensures { (Gives (field_laid series w.now v.now room.old) result room.new) × (512 * (result.series + 1) ≤ length room.old) }
+    ensures { Lays (field_laid series w.now v.now room.old) result room.new }
 {
     let start = 512 * series;
-    let fine = fill_block(&mut room[start..start + 512], w, v);
-    Laid { fine, series }
+    if !fill_block(&mut room[start..start + 512], w, v) {
+        return None;
+    }
+    Some(series)
 }
 
 // Over zeros: what is not said stays zero.
@@ -73,33 +90,30 @@ fn count_series(block: &mut [u8], series: usize)
 }
 
 // A right has no series. n and version are the sender block's until a line says otherwise.
-fn begin_series(room: &mut [u8], series: usize, id: &[u8]) -> Laid
+fn begin_series(room: &mut [u8], series: usize, id: &[u8]) -> Option<usize>
     requires { 512 * (series + 1) ≤ length room.old }
-    ensures { (Gives (begun series id.now room.old) result room.new) × (512 * (result.series + 1) ≤ length room.old) }
+    ensures { Lays (begun series id.now room.old) result room.new }
 {
     let start = 512 * (series + 1);
     if !((kind(room) == 1) & (start + 512 <= room.len())) {
-        return Laid {
-            fine: false,
-            series,
-        };
+        return None;
     }
     let n = n_of(room);
     let v = version(room);
     count_series(&mut room[..512], series + 1);
     write_block(&mut room[start..start + 512], 2, 2, n, v, id);
-    Laid {
-        fine: id.len() <= 16,
-        series: series + 1,
+    if 16 < id.len() {
+        return None;
     }
+    Some(series + 1)
 }
 
-fn lay_line(room: &mut [u8], series: usize, line: &[u8]) -> Laid
+fn lay_line(room: &mut [u8], series: usize, line: &[u8]) -> Option<usize>
     requires { 512 * (series + 1) ≤ length room.old }
-    ensures { (Gives (with_line series line.now room.old) result room.new) × (512 * (result.series + 1) ≤ length room.old) }
+    ensures { Lays (with_line series line.now room.old) result room.new }
 {
     if skipped(line) {
-        return Laid { fine: true, series };
+        return Some(series);
     }
     let w = word(line);
     let v = value(line);
@@ -112,37 +126,27 @@ fn lay_line(room: &mut [u8], series: usize, line: &[u8]) -> Laid
 // ---- the whole text
 
 // The first wrong line ends the reading.
-fn lay_lines(room: &mut [u8], text: &[u8]) -> TextRead
+fn lay_lines(room: &mut [u8], text: &[u8]) -> Result<usize, WrongLine>
     requires { 512 ≤ length room.old }
-    ensures { (Gives (with_lines 0 (laid true 0, room.old) (lines text.now)) result room.new) × (result.length ≤ length room.old) }
+    ensures { Reads (with_lines 0 (laid true 0, room.old) (lines text.now)) result room.new }
 {
     let mut series = 0;
     let mut number = 0;
-    let mut at = 0;
-    while at < text.len() {
-        let laid = lay_line(room, series, line_at(text, at));
+    let mut rest = text;
+    while let Some((line, behind)) = first_line(rest) {
         number += 1;
-        if !laid.fine {
-            return TextRead {
-                line: number,
-                length: 0,
-            };
-        }
-        series = laid.series;
-        at = next_line(text, at);
+        series = lay_line(room, series, line).ok_or(WrongLine(number))?;
+        rest = behind;
     }
-    TextRead {
-        line: 0,
-        length: 512 * (series + 1),
-    }
+    Ok(512 * (series + 1))
 }
 
 // With no room for the first block it is line 1 that is refused.
-fn lay_text(room: &mut [u8], kind: u8, business: u8, text: &[u8]) -> TextRead
-    ensures { (Gives (text_laid kind business text.now room.old) result room.new) × (result.length ≤ length room.new) }
+fn lay_text(room: &mut [u8], kind: u8, business: u8, text: &[u8]) -> Result<usize, WrongLine>
+    ensures { Reads (text_laid kind business text.now room.old) result room.new }
 {
     if room.len() < 512 {
-        return TextRead { line: 1, length: 0 };
+        return Err(WrongLine(1));
     }
     write_block(&mut room[..512], kind, business, 0, 0, b"");
     lay_lines(room, text)
@@ -160,7 +164,7 @@ fn blocks_from_text(
     ensures { Gives (copied buffer.old (text_laid kind business text.now (zeros_for (length room.old) buffer.old))) result buffer.new }
 {
     let n = within(buffer.len(), room);
-    let read = lay_text(&mut room[..n], kind, business, text);
+    let read = TextRead::from(lay_text(&mut room[..n], kind, business, text));
     let k = read.length;
     write_bytes(buffer, 0, &room[..k]);
     read

@@ -1,8 +1,7 @@
 -- Sums known by their remainder by 2 to the 32: a net is wanted as a number of four bytes, and additions and differences keep remainders.
-use Rattle.std.specs.Prelude.{◌≡◌, ℕ, ◌+◌, ◌-◌, ◌%◌, ◌<◌, cond, List, slice_index}
+use Rattle.std.specs.Prelude.{◌≡◌, Bool, ℕ, ◌+◌, ◌-◌, ◌%◌, ◌<◌, cond, List, slice_index}
 use Rattle.laws.specs.Lists.{total}
 use Rattle.paper.specs.Layout.{Bytes, Block, quantity}
-use Rattle.paper.specs.Book.{is_series_of}
 use Rattle.paper.specs.Nets.{comes_in, goes_out}
 
 -- after is before with g k added to each of the first n sums
@@ -20,9 +19,9 @@ sold_share ours e x k = cond (goes_out ours e x) (4294967296 - quantity x k) 0
 unfoldable pub share : (ours e : Bytes) → Block → ℕ → ℕ
 share ours e x k = bought_share ours e x k + sold_share ours e x k
 
--- of a block that is no series of the sender in the slot, nothing
-unfoldable pub own_share : (ours e : Bytes) → ℕ → Block → ℕ → ℕ
-own_share ours e slot x k = cond (is_series_of slot x) (share ours e x k) 0
+-- of a block that does not pass, nothing
+unfoldable pub share_if : (Block → Bool) → (ours e : Bytes) → Block → ℕ → ℕ
+share_if p ours e x k = cond (p x) (share ours e x k) 0
 
 -- what all blocks of l add
 unfoldable pub shares : (Block → ℕ → ℕ) → List Block → ℕ → ℕ

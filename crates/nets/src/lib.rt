@@ -1,64 +1,57 @@
 // "Every sender's net is the sum of its quantities as in party less those as out party", where an external schedule counts by its areas: all hundred at
 // once, so that a series' parties are compared once and not once for each position.
-#![tactic(auto)]
+// Buffers have a fixed length here, since the desk has no heap.
+#![tactic(auto, unfolding(paper::specs::Nets::comes_in, paper::specs::Nets::goes_out))]
 
-ghost use Rattle.std.specs.Prelude.{◌≡◌, ◌-◌, ◌≤◌, length};
+ghost use Rattle.std.specs.Prelude.{◌≡◌, Bool, cond, ℕ, ◌+◌, ◌-◌, ◌%◌, ◌^◌, ◌<◌, ◌≤◌, length};
+ghost use Rattle.std.specs.Fn.{FnReturnsAt};
+ghost use Rattle.laws.specs.Lists.{same};
 ghost use Rattle.laws.specs.Cut.{cut};
-ghost use Rattle.paper.specs.Layout.{sender, quantity, with_nets};
-ghost use Rattle.paper.specs.Book.{own_series};
+ghost use Rattle.paper.specs.Layout.{Block, sender, quantity, with_nets};
+ghost use Rattle.paper.specs.Book.{is_external, own_series};
 ghost use Rattle.paper.specs.Nets.{comes_in, goes_out, nets_of};
 ghost use Rattle.paper.specs.PlainRun.{nets_true};
 ghost use Rattle.layout.specs.Written.{entries};
-ghost use Rattle.nets.specs.Sums.{Raised, bought_share, sold_share, share, own_share, shares};
+ghost use Rattle.nets.specs.Sums.{Raised, bought_share, sold_share, share, share_if, shares};
 
 use block::check::seal;
 use field::same;
 use layout::write::write_entries;
 use layout::{in_area, in_party, nets, out_area, out_party, quantity, sender};
-use paper::Slot;
-use slots::{block_at, is_external, is_sender, is_series_of, slot_of};
+use slots::{is_external, is_sender, is_series_of, slot_of};
 
-// A net is kept by its remainder by 2 to the 32, so sums may wrap round.
-fn add_quantities(sums: &mut [u32], x: &[u8])
-    requires { length sums.old ≡ 100 }
-    ensures { Raised 100 (λ k. quantity x.now k) sums.old sums.new }
+// The sums, each changed by the quantity at its position, which is read by its number too. A net is kept by its remainder by 2 to the 32, so sums may wrap round.
+fn change_sums<F: Fn(u32, u32) -> u32>(sums: &mut [u32], x: &[u8], change: F)
+    requires hundred { length sums.old ≡ 100 }
+    requires callable { F.IsAlwaysCallable change }
+    ensures { (g : ℕ → ℕ) → ((a q r : ℕ) → a < 2 ^ 32 → q < 2 ^ 32 → r < 2 ^ 32 → F.post change a q r → r ≡ (a + g q) % 2 ^ 32) → Raised 100 (λ k. g (quantity x.now k)) sums.old sums.new }
 {
-    let mut k = 0;
-    while k < 100 {
-        sums[k] = std::num::wrapping_add_u32(sums[k], quantity(x, k));
-        k += 1;
+    for k in 0..100 {
+        sums[k] = change(sums[k], quantity(x, k));
     }
 }
 
-// The same for the other side of a trade.
-fn subtract_quantities(sums: &mut [u32], x: &[u8])
-    requires { length sums.old ≡ 100 }
-    ensures { Raised 100 (λ k. 4294967296 - quantity x.now k) sums.old sums.new }
+// An external schedule counts by the border that it crosses, a trade by the sender's side of it: `area` and `party` are those of x on one side.
+fn counts(ours: &[u8], e: &[u8], x: &[u8], area: &[u8], party: &[u8]) -> bool
+    ensures { result ≡ cond (is_external x.now) (same area.now ours.now) (same party.now e.now) }
 {
-    let mut k = 0;
-    while k < 100 {
-        sums[k] = std::num::wrapping_sub_u32(sums[k], quantity(x, k));
-        k += 1;
+    if is_external(x) {
+        same(area, ours)
+    } else {
+        same(party, e)
     }
 }
 
-// An external schedule counts by the border that it crosses, a trade by the sender's side of it.
 fn comes_in(ours: &[u8], e: &[u8], x: &[u8]) -> bool
     ensures { result ≡ comes_in ours.now e.now x.now }
 {
-    if is_external(x) {
-        return same(in_area(x), ours);
-    }
-    same(in_party(x), e)
+    counts(ours, e, x, in_area(x), in_party(x))
 }
 
 fn goes_out(ours: &[u8], e: &[u8], x: &[u8]) -> bool
     ensures { result ≡ goes_out ours.now e.now x.now }
 {
-    if is_external(x) {
-        return same(out_area(x), ours);
-    }
-    same(out_party(x), e)
+    counts(ours, e, x, out_area(x), out_party(x))
 }
 
 // What a series counts as is asked here, before the positions are gone through.
@@ -67,7 +60,7 @@ fn add_bought(sums: &mut [u32], ours: &[u8], e: &[u8], x: &[u8])
     ensures { Raised 100 (bought_share ours.now e.now x.now) sums.old sums.new }
 {
     if comes_in(ours, e, x) {
-        add_quantities(sums, x);
+        change_sums(sums, x, |sum, quantity| sum.wrapping_add(quantity));
     }
 }
 
@@ -77,7 +70,7 @@ fn subtract_sold(sums: &mut [u32], ours: &[u8], e: &[u8], x: &[u8])
     ensures { Raised 100 (sold_share ours.now e.now x.now) sums.old sums.new }
 {
     if goes_out(ours, e, x) {
-        subtract_quantities(sums, x);
+        change_sums(sums, x, |sum, quantity| sum.wrapping_sub(quantity));
     }
 }
 
@@ -90,40 +83,22 @@ fn add_series(sums: &mut [u32], ours: &[u8], e: &[u8], x: &[u8])
     subtract_sold(sums, ours, e, x);
 }
 
-// A message's series, all of them its sender's.
-fn add_all(sums: &mut [u32], ours: &[u8], e: &[u8], series: &[u8])
-    requires { length sums.old ≡ 100 }
-    ensures { Raised 100 (shares (share ours.now e.now) (cut 512 series.now)) sums.old sums.new }
+// Of some blocks the series that count. Most used slots are other senders': of those no quantity is read.
+fn add_those<F: Fn(&[u8]) -> bool>(
+    sums: &mut [u32],
+    ours: &[u8],
+    e: &[u8],
+    blocks: &[u8],
+    counts: F,
+)
+    requires hundred { length sums.old ≡ 100 }
+    requires callable { F.IsAlwaysCallable counts }
+    ensures { (p : Block → Bool) → ((x : Block) (r : Bool) → FnReturnsAt F.Fn counts x r → r ≡ p x) → Raised 100 (shares (share_if p ours.now e.now) (cut 512 blocks.now)) sums.old sums.new }
 {
-    let many = series.len() / 512;
-    let mut i = 0;
-    while i < many {
-        add_series(sums, ours, e, block_at(series, i));
-        i += 1;
-    }
-}
-
-// Most used slots are other senders': of those no quantity is read.
-fn add_if_own(sums: &mut [u32], ours: &[u8], e: &[u8], slot: Slot, x: &[u8])
-    requires { length sums.old ≡ 100 }
-    ensures { Raised 100 (own_share ours.now e.now slot.0 x.now) sums.old sums.new }
-{
-    if is_series_of(x, slot) {
-        add_series(sums, ours, e, x);
-    }
-}
-
-// Of the used slots those that hold a series of the sender in a slot.
-fn add_own(sums: &mut [u32], ours: &[u8], e: &[u8], slot: Slot, us: &[u8])
-    requires { length sums.old ≡ 100 }
-    ensures { Raised 100 (shares (own_share ours.now e.now slot.0) (cut 512 us.now)) sums.old sums.new }
-{
-    let own = slot.0;
-    let many = us.len() / 512;
-    let mut i = 0;
-    while i < many {
-        add_if_own(sums, ours, e, Slot(own), block_at(us, i));
-        i += 1;
+    for x in blocks.chunks_exact(512) {
+        if counts(x) {
+            add_series(sums, ours, e, x);
+        }
     }
 }
 
@@ -142,7 +117,7 @@ pub fn write_nets(s: &mut [u8], ours: &[u8], e: &[u8], series: &[u8])
     ensures { s.new ≡ with_nets (nets_of ours.now e.now (cut 512 series.now)) s.old }
 {
     let mut sums = [0u32; 100];
-    add_all(&mut sums, ours, e, series);
+    add_those(&mut sums, ours, e, series, |_| true);
     put_nets(s, &sums);
 }
 
@@ -152,8 +127,9 @@ pub fn own_nets(ours: &[u8], us: &[u8], s: &[u8]) -> [u32; 100]
     ensures { entries result 100 ≡ nets_of ours.now (sender s.now) (own_series (cut 512 us.now) (sender s.now)) }
 {
     let e = sender(s);
+    let slot = slot_of(us, e);
     let mut sums = [0u32; 100];
-    add_own(&mut sums, ours, e, slot_of(us, e), us);
+    add_those(&mut sums, ours, e, us, |x| is_series_of(x, slot));
     sums
 }
 

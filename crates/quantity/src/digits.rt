@@ -12,22 +12,15 @@ use field::digit;
 pub fn leading_digits(s: &[u8]) -> usize
     ensures { (result ≡ leading_digits s.now) × (result ≤ length s.now) × (every digit (take result s.now) ≡ true) }
 {
-    let mut i = 0;
-    while i < s.len() {
-        if !digit(s[i]) {
-            return i;
-        }
-        i += 1;
-    }
-    i
+    s.iter().position(|x| !digit(*x)).unwrap_or(s.len())
 }
 
-// Only of a byte known to be a digit: taking 48, the digit 0, off it cannot wrap.
+// Only of a byte known to be a digit: taking the digit 0 off it cannot wrap.
 fn digit_value(x: u8) -> u32
     requires { digit x ≡ true }
     ensures { (result ≡ x - 48) × (result < 10) }
 {
-    (x - 48) as u32
+    (x - b'0') as u32
 }
 
 // At most five digits: no number that the desk reads has more.
@@ -36,10 +29,8 @@ pub fn decimal_from(s: &[u8]) -> u32
     ensures { (result ≡ decimal_from 0 s.now) × (result < 100000) }
 {
     let mut a: u32 = 0;
-    let mut i = 0;
-    while i < s.len() {
-        a = 10 * a + digit_value(s[i]);
-        i += 1;
+    for x in s {
+        a = 10 * a + digit_value(*x);
     }
     a
 }
@@ -61,11 +52,9 @@ pub fn put_byte(x: u8, at: usize, i: usize, buffer: &mut [u8])
 pub fn put_last_digits(k: usize, x: usize, at: usize, buffer: &mut [u8])
     ensures { buffer.new ≡ written at (last_digits k x) buffer.old }
 {
-    let mut i = k;
     let mut rest = x;
-    while 0 < i {
-        i -= 1;
-        put_byte(48 + (rest % 10) as u8, at, i, buffer);
+    for i in (0..k).rev() {
+        put_byte(b'0' + (rest % 10) as u8, at, i, buffer);
         rest /= 10;
     }
 }
@@ -75,14 +64,12 @@ pub fn places(most: usize, x: usize) -> usize
     requires { most < 20 }
     ensures { (result ≡ places_by most x) × (result ≤ most + 1) }
 {
-    let mut k = 0;
     let mut rest = x;
-    while k < most {
+    for k in 0..most {
         if rest < 10 {
             return k + 1;
         }
         rest /= 10;
-        k += 1;
     }
-    k + 1
+    most + 1
 }

@@ -3,7 +3,8 @@
 
 ghost use Rattle.std.specs.Prelude.{◌≡◌, ◌<◌, ◌≤◌, length};
 ghost use Rattle.laws.specs.Bytes.{written};
-ghost use Rattle.paper.specs.QuantityText.{read_refused, read_as, worth, past_point, past_whole, unsigned_read, past_minus, quantity_read};
+ghost use Rattle.paper.specs.QuantityText.{worth, past_point, past_whole, unsigned_read, quantity_read};
+ghost use Rattle.quantity.specs.Told.{read_of, told};
 ghost use Rattle.paper.specs.QuantityText.{width_of, decimal, quantity_text, quantity_printed, printed_into};
 
 use digits::{decimal_from, leading_digits, places, put_byte, put_last_digits};
@@ -11,24 +12,11 @@ use paper::{QuantityPrinted, QuantityRead};
 
 pub mod digits;
 
-// A refusal says no quantity.
-fn read_refused(number: u32) -> QuantityRead
-    ensures { result ≡ read_refused number }
-{
-    QuantityRead {
-        number,
-        kilowatts: 0,
-    }
-}
-
-// 0 is the number of an answer that is no refusal.
-fn read_as(kilowatts: u32) -> QuantityRead
-    ensures { result ≡ read_as kilowatts }
-{
-    QuantityRead {
-        number: 0,
-        kilowatts,
-    }
+// Why a text says no quantity.
+#[derive(Clone, Copy, PartialEq, Eq)]
+pub enum NoQuantity {
+    NotText,
+    Negative,
 }
 
 // A kilowatt is the third digit after the point: nothing is rounded.
@@ -45,73 +33,83 @@ fn worth(m: usize) -> u32
 }
 
 // Nothing may follow the digits, and a fourth would be worth less than a kilowatt.
-fn past_point(w: u32, s: &[u8]) -> QuantityRead
+fn past_point(w: u32, s: &[u8]) -> Option<u32>
     requires { w < 100000 }
-    ensures { result ≡ past_point w s.now }
+    ensures { read_of result ≡ past_point w s.now }
 {
     let m = leading_digits(s);
     if m < 1 {
-        return read_refused(30);
+        return None;
     }
     if 3 < m {
-        return read_refused(30);
+        return None;
     }
     if m != s.len() {
-        return read_refused(30);
+        return None;
     }
-    read_as(1000 * w + decimal_from(s) * worth(m))
+    Some(1000 * w + decimal_from(s) * worth(m))
 }
 
-// Whole megawatts need no point, 46; but a point must be followed by digits.
-fn past_whole(w: u32, s: &[u8]) -> QuantityRead
+// Whole megawatts need no point; but a point must be followed by digits.
+fn past_whole(w: u32, s: &[u8]) -> Option<u32>
     requires { w < 100000 }
-    ensures { result ≡ past_whole w s.now }
+    ensures { read_of result ≡ past_whole w s.now }
 {
-    if s.len() == 0 {
-        return read_as(1000 * w);
+    if s.is_empty() {
+        return Some(1000 * w);
     }
-    if s[0] != 46 {
-        return read_refused(30);
+    match s.strip_prefix(b".") {
+        Some(decimals) => past_point(w, decimals),
+        None => None,
     }
-    past_point(w, &s[1..])
 }
 
 // "1 to 4 digits": no text says more than 9,999,999 kilowatts.
-fn unsigned_read(s: &[u8]) -> QuantityRead
-    ensures { result ≡ unsigned_read s.now }
+fn unsigned_read(s: &[u8]) -> Option<u32>
+    ensures { read_of result ≡ unsigned_read s.now }
 {
     let m = leading_digits(s);
     if m < 1 {
-        return read_refused(30);
+        return None;
     }
     if 4 < m {
-        return read_refused(30);
+        return None;
     }
     let w = decimal_from(&s[..m]);
     past_whole(w, &s[m..])
 }
 
-// What is no quantity text without its minus is none with it.
-fn past_minus(r: QuantityRead) -> QuantityRead
-    ensures { result ≡ past_minus r }
+// A minus is looked for first: it tells a negative quantity from text that is none. What is no quantity text without its minus is none with it.
+pub fn kilowatts_of(s: &[u8]) -> Result<u32, NoQuantity>
+    ensures { told result ≡ quantity_read s.now }
 {
-    if r.number == 0 {
-        return read_refused(31);
+    match s.strip_prefix(b"-") {
+        Some(rest) => match unsigned_read(rest) {
+            Some(_) => Err(NoQuantity::Negative),
+            None => Err(NoQuantity::NotText),
+        },
+        None => unsigned_read(s).ok_or(NoQuantity::NotText),
     }
-    read_refused(30)
 }
 
-// A minus, 45, is looked for first: 31 tells a negative quantity from text that is none, 30.
+// With the numbers of the desk's answers, as C takes it; a refusal says no quantity.
 pub fn quantity_read(s: &[u8]) -> QuantityRead
     ensures { result ≡ quantity_read s.now }
 {
-    if s.len() == 0 {
-        return unsigned_read(s);
+    match kilowatts_of(s) {
+        Ok(kilowatts) => QuantityRead {
+            number: 0,
+            kilowatts,
+        },
+        Err(NoQuantity::NotText) => QuantityRead {
+            number: 30,
+            kilowatts: 0,
+        },
+        Err(NoQuantity::Negative) => QuantityRead {
+            number: 31,
+            kilowatts: 0,
+        },
     }
-    if s[0] != 45 {
-        return unsigned_read(s);
-    }
-    past_minus(unsigned_read(&s[1..]))
 }
 
 // No quantity has more than four digits before the point.
@@ -130,12 +128,12 @@ pub fn decimal(x: u32, at: usize, buffer: &mut [u8]) -> usize
     k
 }
 
-// The point, 46, stands where the whole megawatts end; three digits always follow it.
+// The point stands where the whole megawatts end; three digits always follow it.
 fn put_text(kilowatts: u32, buffer: &mut [u8])
     ensures { buffer.new ≡ written 0 (quantity_text kilowatts) buffer.old }
 {
     let k = decimal(kilowatts / 1000, 0, buffer);
-    put_byte(46, k, 0, buffer);
+    put_byte(b'.', k, 0, buffer);
     put_last_digits(3, (kilowatts % 1000) as usize, k + 1, buffer);
 }
 

@@ -1,6 +1,5 @@
-// "Series of a message are walked by a reader laid over the message buffer." `new` and `next` are that form. A function that takes, makes or holds a
-// reader is proved by hand, so these are thin; what they do stands in `readable` and `series_at`, on the message and the number, and by these every
-// caller walks: replay, and `series_numbered` for one series alone.
+// "Series of a message are walked by a reader laid over the message buffer." `new` and `next` are that form. What they do stands in `readable` and
+// `series_at`, on the message and the number, and by these every caller walks: replay, and `series_numbered` for one series alone.
 #![tactic(auto)]
 
 ghost use Rattle.std.specs.Prelude.{◌≡◌};
@@ -46,41 +45,43 @@ fn following(number: usize) -> usize
     number
 }
 
-// A reader that stands before the series with that number.
-pub fn at<'a>(message: &'a [u8], number: usize) -> Reader<'a>
-    ensures { (result.message.now ≡ readable message.now) × (result.next ≡ number) }
-{
-    Reader {
-        message: readable(message),
-        next: number,
+impl<'a> Reader<'a> {
+    // A reader that stands before the series with that number.
+    pub fn at(message: &'a [u8], number: usize) -> Reader<'a>
+        ensures { (result.message.now ≡ readable message.now) × (result.next ≡ number) }
+    {
+        Reader {
+            message: readable(message),
+            next: number,
+        }
     }
-}
 
-pub fn new<'a>(message: &'a [u8]) -> Reader<'a>
-    ensures { (result.message.now ≡ readable message.now) × (result.next ≡ 1) }
-{
-    at(message, 1)
-}
+    pub fn new(message: &'a [u8]) -> Reader<'a>
+        ensures { (result.message.now ≡ readable message.now) × (result.next ≡ 1) }
+    {
+        Reader::at(message, 1)
+    }
 
-// The series that is next, and the reader stays before it.
-fn current<'a>(r: Reader<'a>) -> &'a [u8]
-    ensures { result.now ≡ series_at r.entry.message.now r.entry.next }
-{
-    series_at(r.message, r.next)
-}
+    // The series that is next, and the reader stays before it.
+    fn current(&self) -> &'a [u8]
+        ensures { result.now ≡ series_at self.now.message.now self.now.next }
+    {
+        series_at(self.message, self.next)
+    }
 
-// The series that is next, and the reader moves on.
-pub fn next<'s, 'a>(r: &'s mut Reader<'a>) -> &'a [u8]
-    ensures { (result.now ≡ series_at r.old.message.now r.old.next) × (r.new.message ≡ r.old.message) × (r.new.next ≡ following r.old.next) }
-{
-    let series = series_at(r.message, r.next);
-    r.next = following(r.next);
-    series
+    // The series that is next, and the reader moves on.
+    pub fn next(&mut self) -> &'a [u8]
+        ensures { (result.now ≡ series_at self.old.message.now self.old.next) × (self.new.message ≡ self.old.message) × (self.new.next ≡ following self.old.next) }
+    {
+        let series = self.current();
+        self.next = following(self.next);
+        series
+    }
 }
 
 // A series of a message by its number, by way of a reader.
 pub fn series_numbered(message: &[u8], number: usize) -> &[u8]
     ensures { result.now ≡ series_numbered message.now number }
 {
-    current(at(message, number))
+    Reader::at(message, number).current()
 }

@@ -1,2 +1,3 @@
 -- The inner part of a definition that one function answers.
+pub mod Closed
 pub mod Held

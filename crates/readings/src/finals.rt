@@ -1,18 +1,19 @@
 // The final value of (out party, in party, position), from the day block and the used slots of a sound book.
-ghost use Rattle.std.specs.Prelude.{◌≡◌, ◌++◌, ◌<◌};
+ghost use Rattle.std.specs.Prelude.{◌≡◌, ◌++◌, ◌<◌, IfOk};
 ghost use Rattle.std.proofs.Math.Option.{some};
 ghost use Rattle.laws.specs.Lists.{same, place};
 ghost use Rattle.laws.specs.Cut.{cut};
 ghost use Rattle.paper.specs.Layout.{quantities, entry};
 ghost use Rattle.paper.specs.Book.{numbered, slot_of, is_trade_of};
-ghost use Rattle.paper.specs.Finals.{lesser_of, final_of, final_refused, final_in};
+ghost use Rattle.paper.specs.Finals.{final_of, final_refused, final_in};
 ghost use Rattle.readings.specs.Held.{final_held};
+ghost use Rattle.readings.specs.Closed.{number_of, closed_index};
 
 use block::numbers::number_4;
 use field::same;
 use layout::{n_of, pair, quantities, rule_of};
 use paper::{FinalAnswer, LESSER, Position, Rule, Slot};
-use slots::{block_at, is_series_of, is_trade, numbered, slot_of};
+use slots::{is_series_of, is_trade, numbered, slot_of};
 use sound_blocks::day::closed;
 
 // The field against two lists joined, of whatever lengths.
@@ -40,15 +41,13 @@ fn held(us: &[u8], party: &[u8], seller: &[u8], buyer: &[u8]) -> Slot
     ensures { result.0 ≡ place (is_trade_of (slot_of (cut 512 us.now) party.now) (some (buyer.now ++ seller.now))) (cut 512 us.now) }
 {
     let slot = slot_of(us, party);
-    let blocks = us.len() / 512;
-    let mut i = 0;
-    while i < blocks {
-        if is_trade_between(block_at(us, i), slot, seller, buyer) {
-            return Slot(i + 1);
-        }
-        i += 1;
+    match us
+        .chunks_exact(512)
+        .position(|b| is_trade_between(b, slot, seller, buyer))
+    {
+        Some(i) => Slot(i + 1),
+        None => Slot(0),
     }
-    Slot(0)
 }
 
 // A missing series counts 0.
@@ -59,20 +58,13 @@ pub fn held_at(us: &[u8], slot: Slot, k: usize) -> u32
     number_4(quantities(numbered(us, slot)), 4 * k)
 }
 
-// "The lesser of the two quantities."
-fn lesser_of(sellers: u32, buyers: u32) -> u32
-    ensures { result ≡ lesser_of sellers buyers }
-{
-    if buyers < sellers { buyers } else { sellers }
-}
-
 // The one place that chooses. A series that is missing comes as 0: so a lone side settles at 0 by the lesser rule, and a counterpart that comes late,
 // which rule 14 holds to 0 at closed positions, changes nothing.
 pub fn final_of(rule: Rule, sellers: u32, buyers: u32) -> u32
     ensures { result ≡ final_of rule sellers buyers }
 {
-    if rule.0 == LESSER.0 {
-        return lesser_of(sellers, buyers);
+    if rule == LESSER {
+        return sellers.min(buyers);
     }
     sellers
 }
@@ -81,7 +73,7 @@ pub fn final_refused(number: u32) -> FinalAnswer
     ensures { result ≡ final_refused number }
 {
     FinalAnswer {
-        number: number,
+        number,
         kilowatts: 0,
     }
 }
@@ -93,7 +85,7 @@ fn final_held(rule: Rule, us: &[u8], seller: &[u8], buyer: &[u8], k: usize) -> F
 {
     let sellers = held(us, seller, seller, buyer);
     let buyers = held(us, buyer, seller, buyer);
-    if (sellers.0 == 0) & (buyers.0 == 0) {
+    if (sellers == Slot(0)) & (buyers == Slot(0)) {
         return final_refused(26);
     }
     FinalAnswer {
@@ -102,18 +94,47 @@ fn final_held(rule: Rule, us: &[u8], seller: &[u8], buyer: &[u8], k: usize) -> F
     }
 }
 
-pub fn final_in(d: &[u8], us: &[u8], seller: &[u8], buyer: &[u8], position: Position) -> FinalAnswer
-    ensures { result ≡ final_in d.now (cut 512 us.now) seller.now buyer.now position.0 }
+// Why there are no finals at a position: the day has no such one, or it is not closed.
+#[derive(Clone, Copy, PartialEq, Eq)]
+pub enum NoFinals {
+    NoPosition,
+    StillOpen,
+}
+
+impl NoFinals {
+    // "24 position 0 or above n, 25 not closed".
+    pub fn number(self) -> u32
+        ensures { result ≡ number_of self }
+    {
+        match self {
+            NoFinals::NoPosition => 24,
+            NoFinals::StillOpen => 25,
+        }
+    }
+}
+
+// Position k + 1 is given as k.
+pub fn closed_index(d: &[u8], position: Position) -> Result<usize, NoFinals>
+    ensures { (result ≡ closed_index d.now position.0) × IfOk result (λ k. k < 255) }
 {
     let p = position.0;
     if p == 0 {
-        return final_refused(24);
+        return Err(NoFinals::NoPosition);
     }
     if (n_of(d) as usize) < p {
-        return final_refused(24);
+        return Err(NoFinals::NoPosition);
     }
     if !closed(d, position) {
-        return final_refused(25);
+        return Err(NoFinals::StillOpen);
     }
-    final_held(rule_of(d), us, seller, buyer, p - 1)
+    Ok(p - 1)
+}
+
+pub fn final_in(d: &[u8], us: &[u8], seller: &[u8], buyer: &[u8], position: Position) -> FinalAnswer
+    ensures { result ≡ final_in d.now (cut 512 us.now) seller.now buyer.now position.0 }
+{
+    match closed_index(d, position) {
+        Ok(k) => final_held(rule_of(d), us, seller, buyer, k),
+        Err(why) => final_refused(why.number()),
+    }
 }

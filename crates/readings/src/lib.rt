@@ -17,7 +17,7 @@ use field::{part_of, same};
 use finals::{final_in, final_refused};
 use layout::{differing, first, id_of, partner};
 use paper::{FinalAnswer, MarkAnswer, Position, Slot};
-use slots::{block_at, is_series_of, numbered, slot_of, used_part};
+use slots::{is_series_of, numbered, slot_of, used_part};
 use sound::sound;
 
 // The id is compared only where the sender's slot agrees.
@@ -35,22 +35,20 @@ pub fn stored_as(us: &[u8], sender: &[u8], id: &[u8]) -> Slot
     ensures { result.0 ≡ place (is_stored_as (cut 512 us.now) sender.now id.now) (cut 512 us.now) }
 {
     let slot = slot_of(us, sender);
-    let blocks = us.len() / 512;
-    let mut i = 0;
-    while i < blocks {
-        if is_series_with_id(block_at(us, i), slot, id) {
-            return Slot(i + 1);
-        }
-        i += 1;
+    match us
+        .chunks_exact(512)
+        .position(|b| is_series_with_id(b, slot, id))
+    {
+        Some(i) => Slot(i + 1),
+        None => Slot(0),
     }
-    Slot(0)
 }
 
 fn mark_refused(number: u32) -> MarkAnswer
     ensures { result ≡ mark_refused number }
 {
     MarkAnswer {
-        number: number,
+        number,
         differ: 0,
         code: 0,
         first: Position(0),
@@ -68,7 +66,7 @@ fn mark_of(x: &[u8]) -> MarkAnswer
         differ: differing,
         code: mark_code(differing, partner),
         first: first(x),
-        partner: partner,
+        partner,
     }
 }
 
@@ -76,7 +74,7 @@ fn mark_in(us: &[u8], sender: &[u8], id: &[u8]) -> MarkAnswer
     ensures { result ≡ mark_found (stored_as (cut 512 us.now) sender.now id.now) }
 {
     let slot = stored_as(us, sender, id);
-    if slot.0 == 0 {
+    if slot == Slot(0) {
         return mark_refused(23);
     }
     mark_of(numbered(us, slot))

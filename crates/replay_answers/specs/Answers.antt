@@ -1,7 +1,8 @@
 -- The line that answers each record of a stream, by its tag and its body, and the book after it (docs/REPLAY.md, "Records" and "Answers"). Where the
 -- fields of a record do not fill its body nothing is told and the line is empty: the record is malformed.
 pub mod Laws
-use Rattle.std.specs.Prelude.{Bool, cond, List, [], ◌∷◌, ◌++◌, ℕ, zero, suc, ◌+◌, length, drop}
+use Rattle.std.specs.Borrow.{Bor}
+use Rattle.std.specs.Prelude.{◌≡◌, Bool, true, false, Option, MatchOption, cond, List, [], ◌∷◌, ◌++◌, ℕ, zero, suc, ◌+◌, length, drop}
 use Rattle.laws.specs.Tests.{◌and◌, ◌or◌, is, less}
 use Rattle.laws.specs.Bytes.{number}
 use Rattle.paper.specs.declared.OpenAnswer.{OpenAnswer}
@@ -90,6 +91,11 @@ behind_two body = name_end body (name_end body 0)
 -- a sender and a series id, and nothing behind them
 unfoldable pub two_names : (body : Bytes) → Bool
 two_names body = is (behind_two body) (length body)
+
+-- these two, or that no two names fill the body
+abbrev pub TwoNames : (body : Bytes) → Option (Bor Bytes × Bor Bytes) → Type 0
+TwoNames body r =
+    MatchOption r (two_names body ≡ false) (λ p. (two_names body ≡ true) × (p.0.now ≡ first_name body) × (p.1.now ≡ second_name body))
 
 -- ---- calls that need neither a book nor a message
 

@@ -5,47 +5,61 @@
 pub mod day_calls;
 pub mod leaf_calls;
 pub mod message_calls;
+mod names;
 pub mod reading_calls;
 pub mod shown;
 
-ghost use Rattle.std.specs.Prelude.{◌≡◌};
-ghost use Rattle.stream.specs.Told.{numbers_of};
+ghost use Rattle.std.specs.Prelude.{◌≡◌, unwrap_or};
+ghost use Rattle.stream.specs.Told.{told_of};
+ghost use Rattle.stream.specs.Tags.{number_of};
 ghost use Rattle.desk_text.specs.Put.{Put};
 ghost use Rattle.replay_answers.specs.Answers.{numbers_told, line_of, book_after};
 
+use block::numbers::{byte_or_zero, number_2};
+use paper::{LESSER, Minute, Rule};
+use stream::tag::Tag;
 use stream::told::Told;
 use stream::{buffer, line};
 
-// The numbers that a call tells, of the calls that show no bytes.
-fn numbers(tag: u8, book: &mut [u8], body: &[u8]) -> Told
-    ensures { (numbers_of result ≡ numbers_told tag book.old body.now) × (book.new ≡ book_after tag book.old body.now) }
-{
-    if tag < 5 {
-        return buffer::numbers(tag, book);
-    }
-    if (tag < 8) | ((23 < tag) & (tag < 27)) {
-        return day_calls::numbers(tag, book, body);
-    }
-    if (tag < 16) | (26 < tag) {
-        return reading_calls::numbers(tag, book, body);
-    }
-    if tag == 23 {
-        return day_calls::judge(book, body);
-    }
-    leaf_calls::numbers(tag, body)
-}
-
-// How many bytes of the buffer the line has; 0, which no line has, where the record is malformed.
-pub fn answer(tag: u8, book: &mut [u8], body: &mut [u8], line: &mut [u8]) -> usize
-    ensures { Put 0 (line_of tag book.old body.old) result line.old line.new
-        × (book.new ≡ book_after tag book.old body.old) }
+// The numbers that a call tells, of the calls that show no bytes. `length` and `bytes` are not asked of it, nor those whose lines show bytes.
+fn numbers(tag: Tag, book: &mut [u8], body: &[u8]) -> Option<Told>
+    ensures { (told_of result ≡ numbers_told (number_of tag) book.old body.now) × (book.new ≡ book_after (number_of tag) book.old body.now) }
 {
     match tag {
-        9 => shown::accepted_block(book, body, line),
-        12 => shown::reader(body, line),
-        14 => shown::listing(book, line),
-        19 => shown::print(body, line),
-        21 => shown::seal(body, line),
+        Tag::Book => Some(buffer::length_told(book)),
+        Tag::Length | Tag::Bytes | Tag::Sum => Some(buffer::sum_told(book)),
+        Tag::Open => day_calls::open(book, body, LESSER, 3),
+        Tag::OpenBy => day_calls::open(book, body, Rule(byte_or_zero(body, 3)), 4),
+        Tag::Clock => Some(day_calls::clock(book, Minute(number_2(body, 0)))),
+        Tag::Submit => Some(day_calls::submit(book, body)),
+        Tag::Judge => Some(day_calls::judge(book, body)),
+        Tag::Convert => Some(day_calls::convert(book)),
+        Tag::Right => Some(day_calls::right(book, body)),
+        Tag::Mark => reading_calls::mark(book, body),
+        Tag::Final => reading_calls::final_value(book, body),
+        Tag::Settled => reading_calls::settled(book, body),
+        Tag::Plain => Some(reading_calls::plain_run(book)),
+        Tag::Walk => Some(message_calls::walk_told(body)),
+        Tag::Sound | Tag::Block | Tag::Reader | Tag::Listing => Some(reading_calls::sound(book)),
+        Tag::Eic => Some(leaf_calls::eic(body)),
+        Tag::Id => Some(leaf_calls::id(body)),
+        Tag::Read => Some(leaf_calls::read(body)),
+        Tag::Check => Some(leaf_calls::check(body)),
+        Tag::Code | Tag::Print | Tag::Seal => Some(leaf_calls::code(body)),
+    }
+}
+
+// How many bytes of the buffer the line has; a malformed record has none.
+pub fn answer(tag: Tag, book: &mut [u8], body: &mut [u8], line: &mut [u8]) -> Option<usize>
+    ensures { Put 0 (line_of (number_of tag) book.old body.old) (unwrap_or result 0) line.old line.new
+        × (book.new ≡ book_after (number_of tag) book.old body.old) }
+{
+    match tag {
+        Tag::Block => shown::accepted_block(book, body, line),
+        Tag::Reader => Some(shown::reader(body, line)),
+        Tag::Listing => Some(shown::listing(book, line)),
+        Tag::Print => shown::print(body, line),
+        Tag::Seal => Some(shown::seal(body, line)),
         _ => line::answer(line, tag, numbers(tag, book, body)),
     }
 }

@@ -6,16 +6,14 @@ ghost use Rattle.replay_answers.specs.Answers.{walk_numbers};
 
 use block::check::check_step;
 use reader::{readable, series_at};
-use stream::told::{Told, two};
+use stream::told::Told;
 
 fn sum_on(sum: u32, series: &[u8]) -> u32
     ensures { result ≡ check_from sum series.now }
 {
     let mut s = sum;
-    let mut i = 0;
-    while i < series.len() {
-        s = check_step(s, series[i]);
-        i += 1;
+    for x in series {
+        s = check_step(s, *x);
     }
     s
 }
@@ -26,15 +24,13 @@ pub fn walk_told(message: &[u8]) -> Told
     ensures { numbers_of result ≡ walk_numbers message.now }
 {
     let read = readable(message);
-    let mut count = 0;
     let mut sum = 0u32;
-    while count < 200 {
+    for count in 0..200 {
         let series = series_at(read, count + 1);
-        if series.len() == 0 {
-            return two(count, sum as usize);
+        if series.is_empty() {
+            return Told::of([count, sum as usize]);
         }
         sum = sum_on(sum, series);
-        count += 1;
     }
-    two(count, sum as usize)
+    Told::of([200, sum as usize])
 }

@@ -1,4 +1,6 @@
 // Rules 7 to 10: a series by itself, and beside the message's and the sender's stored series with its id or its key.
+#![tactic(auto, using(layout::proofs::Tests::tests), unfolding(crate::specs::ByPlaces::known_otherwise, crate::specs::ByPlaces::rule7_by, paper::specs::Rules::rule8, paper::specs::Rules::wrong_character, paper::specs::Rules::rule9, paper::specs::Rules::rule10))]
+
 ghost use Rattle.std.specs.Prelude.{◌≡◌};
 ghost use Rattle.paper.specs.Rules.{rule8, wrong_character, rule9, rule10};
 ghost use Rattle.rules.specs.ByPlaces.{known_otherwise, rule7_by};

@@ -1,4 +1,6 @@
 // Rules 3 to 6: the message's first block beside the day block, and beside the sender's stored block.
+#![tactic(auto, using(layout::proofs::Tests::tests), unfolding(paper::specs::Rules::rule3, paper::specs::Rules::rule4, paper::specs::Rules::rule5, paper::specs::Rules::rule6, paper::specs::Rules::id_or_version_broken))]
+
 ghost use Rattle.std.specs.Prelude.{◌≡◌};
 ghost use Rattle.paper.specs.Rules.{rule3, rule4, rule5, rule6, id_or_version_broken};
 
@@ -26,7 +28,7 @@ pub fn rule_4(h: &[u8]) -> bool
 pub fn rule_5(d: &[u8], h: &[u8]) -> bool
     ensures { result ≡ rule5 d.now h.now }
 {
-    !same(day_of_message(h), day_of_book(d)) | !(n_of(h) == n_of(d))
+    !same(day_of_message(h), day_of_book(d)) | (n_of(h) != n_of(d))
 }
 
 // One more than the largest version of two bytes fits in four.

@@ -1,4 +1,6 @@
 // Rules 18 and 19: a series on a right, the place of which was found before, and the sums on it.
+#![tactic(auto, using(layout::proofs::Tests::tests), unfolding(crate::specs::ByPlaces::rule18_by, crate::specs::ByPlaces::rule19_by))]
+
 ghost use Rattle.std.specs.Prelude.{◌≡◌, ◌<◌};
 ghost use Rattle.rules.specs.ByPlaces.{rule18_by, rule19_by};
 

@@ -1,5 +1,5 @@
 -- The parties that each block is the first to name, a sheet line by line, and the whole text.
-use Rattle.std.specs.Prelude.{◌≡◌, ◌∷◌, ◌++◌, ◌+◌, ◌-◌, ◌/◌, ◌≤◌, ◌<◌}
+use Rattle.std.specs.Prelude.{◌≡◌, ◌∷◌, ◌++◌, ◌+◌, ◌-◌, ◌≤◌, ◌<◌}
 use Rattle.laws.specs.Kit.{refl, sym, ap, ap₂, ◌∙◌, Bool, true, false, cond, List, [], append_assoc, append-nil, ℕ, add-one, arith, length, take, take_all, get_or, ◌and◌, ◌or◌, split}
 use Rattle.laws.specs.Tests.Laws.{or_false}
 use Rattle.laws.specs.Base.{take-suc}
@@ -8,8 +8,6 @@ use Rattle.laws.specs.Lists.Search.{has_append}
 use Rattle.laws.specs.Lists.Count.{total_append, total_each}
 use Rattle.laws.specs.Lists.Once.{once_more}
 use Rattle.laws.specs.Bytes.{part}
-use Rattle.laws.specs.Cut.{cut}
-use Rattle.laws.specs.Cut.Laws.{cut_length}
 use Rattle.paper.specs.declared.Rule.{Rule}
 use Rattle.paper.specs.Layout.{Bytes, Block, rule_of, in_party, out_party}
 use Rattle.paper.specs.Book.{day_block, used}
@@ -32,22 +30,27 @@ appearing_append [] r = refl
 appearing_append (b ∷ l) r =
     ap (λ z. cond (is_trade_series b) (in_party b ∷ out_party b ∷ []) [] ++ z) (appearing_append l r) ∙ sym (append_assoc (cond (is_trade_series b) (in_party b ∷ out_party b ∷ []) []) (appearing l) (appearing r))
 
+-- a block names a party
+abbrev pub naming : (party : Bytes) (b : Block) → Bool
+naming party b = is_trade_series b and (same party (in_party b) or same party (out_party b))
+
+-- a party appears where a block names it
+pub appears_named : (party : Bytes) (l : List Block) → has (naming party) l ≡ has (same party) (appearing l)
+unfolding has appearing ◌and◌
+appears_named party [] = refl
+appears_named party (b ∷ l) =
+    ap₂ ◌or◌ (by (is_trade_series b)) (appears_named party l) ∙ sym (has_append (same party) (cond (is_trade_series b) (in_party b ∷ out_party b ∷ []) []) (appearing l))
+  where
+    by : (t : Bool) → (t and (same party (in_party b) or same party (out_party b))) ≡ has (same party) (cond t (in_party b ∷ out_party b ∷ []) [])
+    by true = ap (λ z. same party (in_party b) or z) (sym (or_false _))
+    by false = refl
+
 -- x is block i of us
 module _ (us : List Block) (i : ℕ) (h : i < length us) {x : Block} (e : x ≡ get_or us i []) where
   more : appearing (take (i + 1) us) ≡ appearing (take i us) ++ cond (is_trade_series x) (in_party x ∷ out_party x ∷ []) []
   unfolding appearing
   more = rw e (ap appearing (ap (λ n. take n us) (add-one i) ∙ take-suc us i [] h) ∙ appearing_append (take i us) (get_or us i [] ∷ [])
       ∙ ap (λ z. appearing (take i us) ++ z) (append-nil _))
-
-  pub appears_more : (party : Bytes) {found named : Bool} → found ≡ has (same party) (appearing (take i us))
-      → named ≡ (is_trade_series x and (same party (in_party x) or same party (out_party x))) → (found or named) ≡ has (same party) (appearing (take (i + 1) us))
-  unfolding has ◌and◌
-  appears_more party f n =
-      ap₂ ◌or◌ f (n ∙ split (is_trade_series x) (λ t. rw t (ap (λ z. same party (in_party x) or z) (sym (or_false _)))) (λ t. rw t))
-      ∙ sym (ap (has (same party)) more ∙ has_append (same party) (appearing (take i us)) (cond (is_trade_series x) (in_party x ∷ out_party x ∷ []) []) ∙ ap (λ z. has (same party) (appearing (take i us)) or z) (cond_has (is_trade_series x)))
-    where
-      cond_has : (t : Bool) → has (same party) (cond t (in_party x ∷ out_party x ∷ []) []) ≡ cond t (same party (in_party x) or (same party (out_party x) or false)) false
-      cond_has t = split t (λ u. rw u) (λ u. rw u)
 
   pub named_none : is_trade_series x ≡ false → once (appearing (take i us)) ≡ once (appearing (take (i + 1) us))
   named_none t = ap once (sym (more ∙ rw t (append-nil (appearing (take i us)))))
@@ -63,13 +66,6 @@ module _ (us : List Block) (i : ℕ) (h : i < length us) {x : Block} (e : x ≡ 
       ∙ ap (λ w. w ++ cond (has (same z) (appearing (take i us) ++ y ∷ [])) [] (z ∷ [])) (sym (once_more y (appearing (take i us))))
       ∙ sym (once_more z (appearing (take i us) ++ y ∷ []))
       ∙ ap once (append_assoc (appearing (take i us)) (y ∷ []) (z ∷ []) ∙ ap₂ (λ u v. appearing (take i us) ++ u ∷ v ∷ []) p q ∙ sym (more ∙ rw t))
-
-pub appears_none : (us : List Block) (party : Bytes) → false ≡ has (same party) (appearing (take 0 us))
-unfolding appearing has
-appears_none us party = refl
-
-pub inside : (s : Bytes) (j i : ℕ) → j < i → i ≤ length s / 512 → j < length (cut 512 s)
-inside s j i h g = omega (arith, cut_length 512 s)
 
 pub all_named : (us : List Block) (i m : ℕ) → length us ≡ m → i ≤ m → m ≤ i → once (appearing (take i us)) ≡ parties us
 unfolding parties

@@ -1,4 +1,5 @@
 // Settled positions as text (C-20): a line for each party and one for all of them. The finals of the pairs are worked out once, for all parties.
+// The row of values has a fixed length, since the desk has no heap.
 #![tactic(auto)]
 
 ghost use Rattle.std.specs.Prelude.{◌≡◌, cond, List, [], ◌∷◌, ◌++◌, ℕ, ◌+◌, ◌/◌, ◌<◌, ◌≤◌, length, take};
@@ -49,16 +50,9 @@ fn names_party(b: &[u8], party: &[u8]) -> bool
 
 // Whether one of the first i blocks names it.
 fn appears(us: &[u8], i: usize, party: &[u8]) -> bool
-    requires { i ≤ length us.now / 512 }
     ensures { result ≡ has (same party.now) (appearing (take i (cut 512 us.now))) }
 {
-    let mut found = false;
-    let mut j = 0;
-    while j < i {
-        found = found | names_party(block_at(us, j), party);
-        j += 1;
-    }
-    found
+    us.chunks_exact(512).take(i).any(|b| names_party(b, party))
 }
 
 // The line of a party, unless it has one already.
@@ -109,11 +103,8 @@ fn put_all_parties(line: &mut [u8], at: usize, us: &[u8], values: &[u32; 1000]) 
         bought: 0,
         sold: 0,
     };
-    let blocks = us.len() / 512;
-    let mut i = 0;
-    while i < blocks {
+    for i in 0..us.len() / 512 {
         sheet = put_parties(line, sheet, us, values, i);
-        i += 1;
     }
     sheet
 }

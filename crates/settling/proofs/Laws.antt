@@ -1,6 +1,6 @@
 -- The final of a pair from a trade and its counterpart, the row of values slot by slot, and a party's sums along the row.
-use Rattle.std.specs.Prelude.{◌≡◌, ◌&&◌, ◌++◌, ◌+◌, ◌-◌, ◌/◌, ◌≤◌, ◌<◌}
-use Rattle.laws.specs.Kit.{refl, sym, ap, ap₂, ◌∙◌, Bool, true, false, not, cond, some, List, [], map, ℕ, zero, suc, add-one, arith, length, take, drop, get_or, set, get_or-set_same, get_or-set_other, take_all, ◌and◌, ◌or◌, neg, is, less, split, or_else, and_right, is_no, is_other, is_equal, less_yes, less_no, less_true, less_false}
+use Rattle.std.specs.Prelude.{Result, Ok, Err, ◌≡◌, ◌&&◌, ◌++◌, ◌+◌, ◌-◌, ◌/◌, ◌≤◌, ◌<◌}
+use Rattle.laws.specs.Kit.{refl, sym, ap, ap₂, ◌∙◌, Bool, true, false, not, cond, some, List, [], map, ℕ, zero, suc, add-one, arith, length, take, drop, get_or, set, get_or-set_same, get_or-set_other, take_all, ◌and◌, ◌or◌, neg, is, less, split, or_else, and_right, is_no, is_other, less_yes, less_no, less_false}
 use lib.Dec.{eqb, leb}
 use Rattle.laws.specs.Tests.{upto}
 use Rattle.laws.specs.Tests.Laws.{or_left, or_right}
@@ -29,6 +29,9 @@ use Rattle.facts.specs.Sides.{sides}
 use Rattle.facts.specs.Finals.{nothing_held}
 use Rattle.facts.specs.Sound.{sound_says, day_n}
 use Rattle.facts.specs.Settled.{ClosedAt, settled_at, Trading, sound_trading, trade_series_trade, own_place, owner, earlier, counted_at, total_counted, total_none_counted, buyer_of_pair, seller_of_pair, pair_again}
+use Rattle.readings.specs.declared.finals.NoFinals.{NoFinals}
+use Rattle.readings.specs.declared.finals.NoFinals.TheVariants.{NoPosition, StillOpen}
+use Rattle.readings.specs.Closed.{number_of, closed_index}
 use Rattle.readings.proofs.Laws.Held.{held_at_lem}
 use Rattle.settling.specs.Values.{value_of, Valued, side_sum, position_number}
 
@@ -184,24 +187,29 @@ module _ (d : Block) (us : List Block) (p : ℕ) (c : ClosedAt d p) where
 
 -- ---- the refusals
 
-module _ (d : Block) (p : ℕ) where
-  pub no_position : p ≡ 0 → 24 ≡ position_number d p
-  unfolding position_number ◌or◌
-  no_position e = rw (is_equal p 0 e)
+-- by the index of the position: its number, and the index itself
+abbrev pub number_by : Result ℕ NoFinals → ℕ
+number_by (Ok k) = 0
+number_by (Err why) = number_of why
 
-  module _ (n : p ≡ 0 → ⊥) where
-    pub above_n_lem : n_of d < p → 24 ≡ position_number d p
-    unfolding position_number ◌or◌
-    above_n_lem h = rw (is_other p 0 n, less_true (n_of d) p h)
+pub why_refused : (why : NoFinals) → number_of why ≡ 0 → ⊥
+why_refused NoPosition z = omega (arith, z)
+why_refused StillOpen z = omega (arith, z)
 
-    module _ (h : p ≤ n_of d) where
-      pub still_open : closed d p ≡ false → 25 ≡ position_number d p
-      unfolding position_number ◌or◌ neg
-      still_open e = rw (is_other p 0 n, less_false (n_of d) p h, e)
+pub number_by_index : (d : Block) (p : ℕ) → number_by (closed_index d p) ≡ position_number d p
+unfolding closed_index position_number neg
+number_by_index d p = split (is p 0 or less (n_of d) p) (λ t. rw t) (λ t. split (closed d p) (λ u. rw (t, u)) (λ u. rw (t, u)))
 
-      pub is_closed : closed d p ≡ true → 0 ≡ position_number d p
-      unfolding position_number ◌or◌ neg
-      is_closed e = rw (is_other p 0 n, less_false (n_of d) p h, e)
+abbrev index_or : ℕ → Result ℕ NoFinals → ℕ
+index_or n (Ok k) = k
+index_or n (Err why) = n
+
+index_before : (d : Block) (p : ℕ) → index_or (p - 1) (closed_index d p) ≡ p - 1
+unfolding closed_index neg
+index_before d p = split (is p 0 or less (n_of d) p) (λ t. rw t) (λ t. split (closed d p) (λ u. rw (t, u)) (λ u. rw (t, u)))
+
+pub index_is : (d : Block) (p : ℕ) {k : ℕ} → Ok k ≡ closed_index d p → k ≡ p - 1
+index_is d p e = ap (index_or (p - 1)) e ∙ index_before d p
 
 module _ (d : Block) (p : ℕ) {number : ℕ} (e : number ≡ position_number d p) where
   -- whichever party is asked for

@@ -1,5 +1,6 @@
 -- What the check on site asks of the definitions where no book is needed.
 use Rattle.std.specs.Prelude.{◌∷◌}
+use Rattle.std.specs.Option.{unwrap_or}
 use Rattle.laws.specs.Base.{Bool, [], ℕ, replicate}
 use Rattle.laws.specs.Tests.{◌and◌, is}
 use Rattle.laws.specs.Bytes.{written}
@@ -8,9 +9,9 @@ use Rattle.paper.specs.QuantityText.{quantity_read}
 use Rattle.desk_text.specs.Numbers.{number_read}
 use Rattle.desk_text.specs.Arguments.{byte_value}
 
--- the number that a row's argument says
+-- the number that a row's argument says, 0 where it says none
 abbrev pub number_in : Bytes → ℕ
-number_in s = (number_read s).value
+number_in s = unwrap_or (number_read s) 0
 
 -- a block that is zero but for one byte
 unfoldable pub block_with : (at byte : Bytes) → Bytes

@@ -1,4 +1,5 @@
 // What needs no book.
+// Buffers have a fixed length here, since the desk has no heap.
 ghost use Rattle.std.specs.Prelude.{◌≡◌, true, [], ◌∷◌};
 ghost use Rattle.laws.specs.Bytes.{written};
 ghost use Rattle.paper.specs.Check.{check_of};
@@ -24,7 +25,7 @@ pub fn quantities(rt: &impl Print) -> bool
 {
     let a = read_as(rt, b"0.194", 194);
     let b = read_as(rt, b"9999.999", 9999999);
-    line::both(line::both(a, b), read_as(rt, b"60.0", 60000))
+    line::all(&[a, b, read_as(rt, b"60.0", 60000)])
 }
 
 pub fn printed(rt: &impl Print) -> bool
@@ -50,8 +51,8 @@ pub fn check(at: &[u8], byte: &[u8]) -> u32
     let mut block = [0u8; 512];
     put_byte(
         &mut block,
-        number_read(at).value as usize,
-        byte_value(number_read(byte).value),
+        number_read(at).unwrap_or(0) as usize,
+        byte_value(number_read(byte).unwrap_or(0)),
     );
     block::check::check_of(&block)
 }

@@ -1,6 +1,7 @@
 // Blocks in a row, as they stand in a book's slots and in a message: one by its number, those of a kind, the used ones, a sender's slot; the kinds of series,
 // and two series compared.
-#![tactic(auto)]
+// Buffers have a fixed length here, since the desk has no heap.
+#![tactic(auto, using(layout::proofs::Tests::tests), unfolding(paper::specs::Book::is_sender, paper::specs::Book::is_series, paper::specs::Book::is_right, paper::specs::Book::is_trade, paper::specs::Book::with_capacity, paper::specs::Book::is_external, paper::specs::Book::is_series_of, paper::specs::Book::is_sender_block_of, paper::specs::Book::is_right_of, paper::specs::Sound::same_right))]
 
 ghost use Rattle.std.specs.Prelude.{◌≡◌, [], ◌*◌, ◌-◌, ◌≤◌, length, get_or};
 ghost use Rattle.laws.specs.Lists.{same, until};
@@ -9,7 +10,6 @@ ghost use Rattle.paper.specs.Layout.{area, key};
 ghost use Rattle.paper.specs.Book.{day_block, is_free, used, is_sender, is_series, is_right, is_trade, with_capacity, is_external, trade, trade_is, numbered, is_sender_block_of, slot_of, is_series_of, is_right_of};
 ghost use Rattle.paper.specs.Sound.{same_right};
 
-use block::numbers::write_bytes;
 use field::{all_zero, same};
 use layout::{
     area, areas, business_type, but_limits, holder, kind, pair, parties_and_agreement, sender,
@@ -17,7 +17,7 @@ use layout::{
 };
 use paper::Slot;
 
-// Block i, counted from 0; empty where there is none.
+// Block i, counted from 0; empty where there is none, as the definitions have it: each field of it reads as 0.
 pub fn block_at(s: &[u8], i: usize) -> &[u8]
     ensures { result.now ≡ get_or (cut 512 s.now) i [] }
 {
@@ -105,7 +105,7 @@ pub fn same_right(a: &[u8], b: &[u8]) -> bool
 pub fn is_series_of(b: &[u8], slot: Slot) -> bool
     ensures { result ≡ is_series_of slot.0 b.now }
 {
-    is_series(b) & (senders_slot(b).0 == slot.0)
+    is_series(b) & (senders_slot(b) == slot)
 }
 
 pub fn is_sender_block_of(b: &[u8], e: &[u8]) -> bool
@@ -134,15 +134,10 @@ fn is_free(b: &[u8]) -> bool
 pub fn used_count(slots: &[u8]) -> usize
     ensures { (result ≡ length (until is_free (cut 512 slots.now))) × (512 * result ≤ length slots.now) }
 {
-    let blocks = slots.len() / 512;
-    let mut i = 0;
-    while i < blocks {
-        if is_free(block_at(slots, i)) {
-            return i;
-        }
-        i += 1;
-    }
-    i
+    slots
+        .chunks_exact(512)
+        .position(|b| is_free(b))
+        .unwrap_or(slots.len() / 512)
 }
 
 // The used slots, a part of the lent book; none where it has no day block.
@@ -156,19 +151,14 @@ pub fn used_part(book: &[u8]) -> &[u8]
     &slots[..512 * used_count(slots)]
 }
 
-// The slot of the sender with this EIC; 0 where it has none.
+// The slot of the sender with this EIC; 0 where it has none, as the definition and the blocks that keep a slot have it.
 pub fn slot_of(us: &[u8], e: &[u8]) -> Slot
     ensures { result.0 ≡ slot_of (cut 512 us.now) e.now }
 {
-    let blocks = us.len() / 512;
-    let mut i = 0;
-    while i < blocks {
-        if is_sender_block_of(block_at(us, i), e) {
-            return Slot(i + 1);
-        }
-        i += 1;
+    match us.chunks_exact(512).position(|b| is_sender_block_of(b, e)) {
+        Some(i) => Slot(i + 1),
+        None => Slot(0),
     }
-    Slot(0)
 }
 
 // The area out of the day block, which cannot be read while the slots behind it are lent to be written.
@@ -177,6 +167,6 @@ pub fn area_of(book: &[u8]) -> [u8; 16]
     ensures { result ≡ area (day_block book.now) }
 {
     let mut ours = [0u8; 16];
-    write_bytes(&mut ours, 0, area(book));
+    ours.copy_from_slice(area(book));
     ours
 }

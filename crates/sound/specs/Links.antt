@@ -1,13 +1,12 @@
 -- The used slots in groups, each block linked to the next of its group: a test of pairs, or a count, follows the links and meets no other block.
-use Rattle.std.specs.Prelude.{◌≡◌, Bool, true, cond, List, [], ℕ, ◌+◌, ◌%◌, ◌<◌, drop, get_or}
-use Rattle.laws.specs.Tests.{neg, is}
-use Rattle.laws.specs.Lists.{every, All}
+use Rattle.std.specs.Prelude.{◌≡◌, Bool, cond, List, [], ℕ, ◌+◌, ◌%◌, ◌<◌, get_or}
+use Rattle.laws.specs.Tests.{is}
+use Rattle.laws.specs.Lists.{All}
 use Rattle.laws.specs.Bytes.{part}
 use Rattle.paper.specs.Layout.{Block, id_of, sender, senders_slot, pair}
 use Rattle.paper.specs.Book.{is_sender, is_series, is_right, is_trade}
 use Rattle.index.specs.Tags.{tag_of, pair_tag_of, key_tag_of}
-use Rattle.index.specs.Linked.Laws.{Walk}
-use Rattle.sound.specs.Used.{clashes}
+use Rattle.sound.specs.declared.links.Tag.{Tag}
 
 -- ---- numbers that differ where the ids, the keys, the senders' EICs or the rights do, but for a chance
 
@@ -23,8 +22,8 @@ unfoldable pub id_tag : Block → ℕ
 id_tag b = cond (is_series b) (tag_of (id_of b)) (key_tag b)
 
 -- those of the first i blocks
-unfoldable pub Tags : List Block → ℕ → List ℕ → List ℕ → Type 0
-Tags us i ids keys = (j : ℕ) → j < i → (get_or ids j 0 ≡ id_tag (get_or us j [])) × (get_or keys j 0 ≡ key_tag (get_or us j []))
+unfoldable pub Tagged : List Block → ℕ → List Tag → Type 0
+Tagged us i tags = (j : ℕ) → j < i → (d : Tag) → ((get_or tags j d).id ≡ id_tag (get_or us j [])) × ((get_or tags j d).key ≡ key_tag (get_or us j []))
 
 -- ---- groups
 
@@ -38,14 +37,3 @@ in_group g b = is (group b) g
 -- every group has its bucket
 unfoldable pub Grouped : List Block → Type 0
 Grouped us = All (λ b. group b < 1024) us
-
--- ---- the way along a group
-
--- block a clashes with none of some blocks, those from place k on
-abbrev pub clear : (a : Block) (k : ℕ) → List Block → Bool
-clear a k r = every (λ y. neg (clashes a y)) r
-
--- on the way from block i to the end of its group, at the place at: whether it clashes with none behind it is told by the blocks from there on
-abbrev pub Ahead : (us : List Block) (i at : ℕ) → Type 0
-Ahead us i at =
-    Walk (in_group (group (get_or us i []))) (clear (get_or us i [])) true us (clear (get_or us i []) (i + 1) (drop (i + 1) us)) at

@@ -4,13 +4,13 @@ ghost use Rattle.laws.specs.Tests.{neg};
 ghost use Rattle.laws.specs.Lists.{every, apart};
 ghost use Rattle.laws.specs.Cut.{cut};
 ghost use Rattle.paper.specs.Sound.{same_sender, same_series};
-ghost use Rattle.index.specs.Linked.{Nexts};
-ghost use Rattle.index.specs.Linked.Laws.{left};
+ghost use Rattle.index.specs.Linked.{Links};
 ghost use Rattle.sound.specs.Used.{clashes};
-ghost use Rattle.sound.specs.Links.{in_group, Tags, Ahead};
+ghost use Rattle.sound.specs.Links.{id_tag, key_tag, in_group, Tagged};
 
+use super::links::Tag;
 use field::same;
-use index::wide;
+use index::buckets::Buckets;
 use layout::{id_of, sender, senders_slot};
 use slots::{block_at, is_sender, is_series, same_key, same_right};
 
@@ -25,7 +25,7 @@ fn same_series(a: &[u8], b: &[u8]) -> bool
 {
     is_series(a)
         & is_series(b)
-        & (senders_slot(a).0 == senders_slot(b).0)
+        & (senders_slot(a) == senders_slot(b))
         & (same(id_of(a), id_of(b)) | same_key(a, b))
 }
 
@@ -35,60 +35,32 @@ fn clashes(a: &[u8], b: &[u8]) -> bool
     same_sender(a, b) | same_series(a, b) | same_right(a, b)
 }
 
-// From one block of a group on, the first whose id or key could be that of block i by its tag; 0 where there is none. Tags tell nearly all blocks apart,
-// so that this walk over all pairs of a group does nothing but compare them.
-fn next_alike(
-    us: &[u8],
-    nexts: &[u16; 1000],
-    ids: &[u32; 1000],
-    keys: &[u32; 1000],
-    i: usize,
-    from: usize,
-) -> usize
-    requires { (length us.now / 512 ≤ 1000) × Nexts in_group (cut 512 us.now) 0 nexts.now × Tags (cut 512 us.now) (length us.now / 512) ids.now keys.now × (i < length us.now / 512) × Ahead (cut 512 us.now) i from }
-    ensures { Ahead (cut 512 us.now) i result × (left result ≤ left from) }
+// Block j clashes with block i, whose tag is handed in: only one that is alike by its tag could. Tags tell nearly all blocks apart, so that a walk over all pairs
+// of a group does little but compare them.
+fn clashes_at(us: &[u8], tags: &[Tag; 1000], tag: Tag, i: usize, j: usize) -> bool
+    requires { Tagged (cut 512 us.now) (length us.now / 512) tags.now × (tag.id ≡ id_tag (get_or (cut 512 us.now) i [])) × (tag.key ≡ key_tag (get_or (cut 512 us.now) i [])) × (j < 1000) }
+    ensures { j < length us.now / 512 → result ≡ clashes (get_or (cut 512 us.now) i []) (get_or (cut 512 us.now) j []) }
 {
-    let mut at = from;
-    while at != 0 {
-        if (ids[i] == ids[at - 1]) | (keys[i] == keys[at - 1]) {
-            return at;
-        }
-        at = wide(nexts[at - 1]);
-    }
-    at
+    tag.alike(tags[j]) && clashes(block_at(us, i), block_at(us, j))
 }
 
 // Block i clashes with none behind it: only those of its own group could.
-fn clear_of_later(
-    us: &[u8],
-    nexts: &[u16; 1000],
-    ids: &[u32; 1000],
-    keys: &[u32; 1000],
-    i: usize,
-) -> bool
-    requires { (length us.now / 512 ≤ 1000) × Nexts in_group (cut 512 us.now) 0 nexts.now × Tags (cut 512 us.now) (length us.now / 512) ids.now keys.now × (i < length us.now / 512) }
+fn clear_of_later(us: &[u8], buckets: &Buckets, tags: &[Tag; 1000], i: usize) -> bool
+    requires { Links in_group (cut 512 us.now) 0 buckets.now.heads buckets.now.nexts × Tagged (cut 512 us.now) (length us.now / 512) tags.now × (length us.now / 512 ≤ 1000) × (i < length us.now / 512) }
     ensures { result ≡ every (λ y. neg (clashes (get_or (cut 512 us.now) i []) y)) (drop (i + 1) (cut 512 us.now)) }
 {
-    let mut at = next_alike(us, nexts, ids, keys, i, wide(nexts[i]));
-    while at != 0 {
-        if clashes(block_at(us, i), block_at(us, at - 1)) {
-            return false;
-        }
-        at = next_alike(us, nexts, ids, keys, i, wide(nexts[at - 1]));
-    }
-    true
+    let tag = tags[i];
+    let next = buckets.next(i + 1);
+    buckets.find_from(next, |j| clashes_at(us, tags, tag, i, j)) == 0
 }
 
-pub fn blocks_apart(us: &[u8], nexts: &[u16; 1000], ids: &[u32; 1000], keys: &[u32; 1000]) -> bool
-    requires { (length us.now / 512 ≤ 1000) × Nexts in_group (cut 512 us.now) 0 nexts.now × Tags (cut 512 us.now) (length us.now / 512) ids.now keys.now }
+pub fn blocks_apart(us: &[u8], buckets: &Buckets, tags: &[Tag; 1000]) -> bool
+    requires { Links in_group (cut 512 us.now) 0 buckets.now.heads buckets.now.nexts × Tagged (cut 512 us.now) (length us.now / 512) tags.now × (length us.now / 512 ≤ 1000) }
     ensures { result ≡ apart clashes (cut 512 us.now) }
 {
-    let blocks = us.len() / 512;
     let mut ok = true;
-    let mut i = 0;
-    while i < blocks {
-        ok = ok & clear_of_later(us, nexts, ids, keys, i);
-        i += 1;
+    for i in 0..us.len() / 512 {
+        ok = ok & clear_of_later(us, buckets, tags, i);
     }
     ok
 }

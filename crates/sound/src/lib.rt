@@ -20,10 +20,9 @@ use apart::blocks_apart;
 use block::check::checks_right;
 use counts::counts_right;
 use field::{all_zero, part_of};
-use index::{no_heads, no_nexts};
 use layout::{differing, n_of};
-use links::{link, no_tags, tag};
-use slots::{block_at, is_right, is_sender, is_series, used_count};
+use links::{link_groups, tags_of};
+use slots::{is_right, is_sender, is_series, used_count};
 use sound_blocks::day::day_sound;
 use sound_blocks::ranges::{differing_allowed, whole_blocks};
 use sound_blocks::right::right_sound;
@@ -47,14 +46,7 @@ fn all_fields(old: bool, d: &[u8], us: &[u8]) -> bool
     requires { n_of d.now ≤ 100 }
     ensures { result ≡ every (used_fields (allowed_in old) d.now (cut 512 us.now)) (cut 512 us.now) }
 {
-    let blocks = us.len() / 512;
-    let mut ok = true;
-    let mut i = 0;
-    while i < blocks {
-        ok = ok & used_fields(old, d, us, block_at(us, i));
-        i += 1;
-    }
-    ok
+    us.chunks_exact(512).all(|b| used_fields(old, d, us, b))
 }
 
 // What the used slots are to each other. The counts come last: where no two senders share an EIC, a sender's slot is known without a search.
@@ -62,26 +54,16 @@ fn linked_sound(us: &[u8]) -> bool
     requires { (length us.now / 512 ≤ 1000) × Grouped (cut 512 us.now) }
     ensures { result ≡ linked_sound (cut 512 us.now) }
 {
-    let mut heads = no_heads();
-    let mut nexts = no_nexts();
-    link(us, &mut heads, &mut nexts);
-    let mut ids = no_tags();
-    let mut keys = no_tags();
-    tag(us, &mut ids, &mut keys);
-    if !blocks_apart(us, &nexts, &ids, &keys) {
-        return false;
-    }
-    counts_right(us, &heads, &nexts)
+    let buckets = link_groups(us);
+    let tags = tags_of(us);
+    blocks_apart(us, &buckets, &tags) && counts_right(us, &buckets)
 }
 
 fn each_used(old: bool, d: &[u8], us: &[u8]) -> bool
     requires { (n_of d.now ≤ 100) × (length us.now / 512 ≤ 1000) }
     ensures { result ≡ each_used (allowed_in old) d.now (cut 512 us.now) }
 {
-    if !all_fields(old, d, us) {
-        return false;
-    }
-    linked_sound(us)
+    all_fields(old, d, us) && linked_sound(us)
 }
 
 // The day block and the used slots behind it.

@@ -1,11 +1,11 @@
 // The used slots in groups: the series of each sender, the senders, and the rights. Each block is linked to the next of its group, so that what is asked
 // of any two of a group, or of a group's number, is found without a look at any other block.
-ghost use Rattle.std.specs.Prelude.{◌≡◌, true, [], ◌/◌, ◌≤◌, ◌<◌, length, get_or};
+ghost use Rattle.std.specs.Prelude.{◌≡◌, ◌==◌, ◌||◌, ◌/◌, ◌≤◌, length};
 ghost use Rattle.laws.specs.Cut.{cut};
-ghost use Rattle.paper.specs.Layout.{zeros};
 ghost use Rattle.index.specs.Linked.{Links};
-ghost use Rattle.sound.specs.Links.{wide_tag, key_tag, id_tag, Tags, group, in_group, Grouped};
+ghost use Rattle.sound.specs.Links.{wide_tag, key_tag, id_tag, Tagged, group, in_group, Grouped};
 
+use index::buckets::{Buckets, link};
 use index::tags::{key_tag_of, pair_tag_of, tag_of};
 use layout::{areas, id_of, pair, parties_and_agreement, sender, senders_slot};
 use slots::{block_at, is_right, is_sender, is_series, is_trade};
@@ -13,8 +13,7 @@ use slots::{block_at, is_right, is_sender, is_series, is_trade};
 fn wide_tag(b: &[u8]) -> u32
     ensures { result ≡ wide_tag b.now }
 {
-    let areas_tag = pair_tag_of(areas(b)) as u64;
-    ((areas_tag + key_tag_of(parties_and_agreement(b)) as u64) % 4294967296) as u32
+    pair_tag_of(areas(b)).wrapping_add(key_tag_of(parties_and_agreement(b)))
 }
 
 // A trade's is made of fewer bytes: most series are trades.
@@ -41,12 +40,10 @@ fn id_tag(b: &[u8], key: u32) -> u32
     key
 }
 
-// The group of the block at i.
-fn group_at(us: &[u8], i: usize) -> usize
-    requires { Grouped (cut 512 us.now) × (i < length us.now / 512) }
-    ensures { (result ≡ group (get_or (cut 512 us.now) i [])) × (result < 1024) }
+// The group of a block.
+fn group_of(b: &[u8]) -> usize
+    ensures { result ≡ group b.now }
 {
-    let b = block_at(us, i);
     if is_series(b) {
         return senders_slot(b).0;
     }
@@ -56,38 +53,48 @@ fn group_at(us: &[u8], i: usize) -> usize
     0
 }
 
-pub fn no_tags() -> [u32; 1000]
-    ensures { length result ≡ 1000 }
+// Each block in the bucket of its group.
+pub fn link_groups(us: &[u8]) -> Buckets
+    requires { (length us.now / 512 ≤ 1000) × Grouped (cut 512 us.now) }
+    ensures { Links in_group (cut 512 us.now) 0 result.heads result.nexts }
 {
-    [0; 1000]
+    link(us, |b| Some(group_of(b)))
 }
 
-// From the last block back: what was the group's first block is now its second.
-pub fn link(us: &[u8], heads: &mut [u16; 1024], nexts: &mut [u16; 1000])
-    requires { (length us.now / 512 ≤ 1000) × Grouped (cut 512 us.now) × (zeros heads.old ≡ true) × (length heads.old ≡ 1024) × (length nexts.old ≡ 1000) }
-    ensures { Links in_group (cut 512 us.now) 0 heads.new nexts.new }
-{
-    let mut i = us.len() / 512;
-    while 0 < i {
-        let g = group_at(us, i - 1);
-        nexts[i - 1] = heads[g];
-        heads[g] = i as u16;
-        i -= 1;
+// The number that a block's id makes, and the one that its key makes.
+#[derive(Clone, Copy)]
+pub struct Tag {
+    pub id: u32,
+    pub key: u32,
+}
+
+impl Tag {
+    fn of(b: &[u8]) -> Tag
+        ensures { (result.id ≡ id_tag b.now) × (result.key ≡ key_tag b.now) }
+    {
+        let key = key_tag(b);
+        Tag {
+            id: id_tag(b, key),
+            key,
+        }
+    }
+
+    // Two blocks of which neither number agrees have neither id nor key in common.
+    pub fn alike(self, other: Tag) -> bool
+        ensures { result ≡ ((self.id == other.id) || (self.key == other.key)) }
+    {
+        (self.id == other.id) | (self.key == other.key)
     }
 }
 
 // Two blocks are compared byte by byte only where their tags agree.
-pub fn tag(us: &[u8], ids: &mut [u32; 1000], keys: &mut [u32; 1000])
-    requires { (length us.now / 512 ≤ 1000) × (length ids.old ≡ 1000) × (length keys.old ≡ 1000) }
-    ensures { Tags (cut 512 us.now) (length us.now / 512) ids.new keys.new }
+pub fn tags_of(us: &[u8]) -> [Tag; 1000]
+    requires { length us.now / 512 ≤ 1000 }
+    ensures { Tagged (cut 512 us.now) (length us.now / 512) result }
 {
-    let blocks = us.len() / 512;
-    let mut i = 0;
-    while i < blocks {
-        let b = block_at(us, i);
-        let key = key_tag(b);
-        ids[i] = id_tag(b, key);
-        keys[i] = key;
-        i += 1;
+    let mut tags = [Tag { id: 0, key: 0 }; 1000];
+    for i in 0..us.len() / 512 {
+        tags[i] = Tag::of(block_at(us, i));
     }
+    tags
 }

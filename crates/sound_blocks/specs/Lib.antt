@@ -1,3 +1,2 @@
 -- What the code hands down inside the call.
-pub mod Entries
 pub mod Layouts

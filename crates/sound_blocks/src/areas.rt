@@ -1,4 +1,6 @@
 // The areas of a series and of a right: which of them is ours.
+#![tactic(auto, using(layout::proofs::Tests::tests), unfolding(paper::specs::Sound::one_area_ours, paper::specs::Sound::areas_allowed))]
+
 ghost use Rattle.std.specs.Prelude.{◌≡◌};
 ghost use Rattle.paper.specs.Sound.{one_area_ours, areas_allowed};
 

@@ -1,4 +1,6 @@
 // Business type and capacity fields, which go together: a series with capacity names a right, any other has none.
+#![tactic(auto, using(layout::proofs::Tests::tests), unfolding(paper::specs::Sound::type_allowed, paper::specs::Sound::capacity_named, paper::specs::Sound::capacity_allowed))]
+
 ghost use Rattle.std.specs.Prelude.{◌≡◌};
 ghost use Rattle.paper.specs.Sound.{type_allowed, capacity_named, capacity_allowed};
 

@@ -1,4 +1,6 @@
 // The day block: "as above with valid EICs".
+#![tactic(auto, using(layout::proofs::Tests::tests), unfolding(paper::specs::Sound::day_fields, paper::specs::Sound::day_sound, paper::specs::Rules::closed))]
+
 ghost use Rattle.std.specs.Prelude.{◌≡◌, ◌≤◌};
 ghost use Rattle.paper.specs.Sound.{day_fields, day_sound};
 ghost use Rattle.paper.specs.Rules.{closed};

@@ -1,4 +1,6 @@
 // The ranges of the fields.
+#![tactic(auto, using(layout::proofs::Tests::tests), unfolding(paper::specs::Ranges::whole_blocks, paper::specs::Ranges::n_allowed, paper::specs::Ranges::lead_allowed, paper::specs::Ranges::clock_allowed, paper::specs::Ranges::rule_allowed, paper::specs::Ranges::version_allowed, paper::specs::Ranges::count_allowed, paper::specs::Ranges::contract_allowed, paper::specs::Ranges::quantity_allowed, paper::specs::Ranges::net_allowed, paper::specs::Layout::same_rule, crate::specs::Layouts::allowed_in, paper::specs::Sound::differing_allowed, paper::specs::Conversion::state_allowed))]
+
 ghost use Rattle.std.specs.Prelude.{◌≡◌};
 ghost use Rattle.paper.specs.Ranges.{whole_blocks, n_allowed, lead_allowed, clock_allowed, rule_allowed, version_allowed, count_allowed, contract_allowed, quantity_allowed, net_allowed};
 ghost use Rattle.sound_blocks.specs.Layouts.{allowed_in};
@@ -8,14 +10,14 @@ use paper::{LESSER, Minute, Rule, SELLERS};
 pub fn whole_blocks(least: usize, most: usize, b: &[u8]) -> bool
     ensures { result ≡ whole_blocks least most b.now }
 {
-    (b.len() % 512 == 0) & (least <= b.len() / 512) & (b.len() / 512 <= most)
+    (b.len() % 512 == 0) & (least..=most).contains(&(b.len() / 512))
 }
 
 // A day of 23, 24 or 25 hours.
 pub fn n_allowed(n: u8) -> bool
     ensures { result ≡ n_allowed n }
 {
-    (n == 92) | (n == 96) | (n == 100)
+    matches!(n, 92 | 96 | 100)
 }
 
 pub fn lead_allowed(lead: u16) -> bool
@@ -34,25 +36,25 @@ pub fn clock_allowed(minute: Minute) -> bool
 pub fn rule_allowed(rule: Rule) -> bool
     ensures { result ≡ rule_allowed rule }
 {
-    (rule.0 == SELLERS.0) | (rule.0 == LESSER.0)
+    (rule == SELLERS) | (rule == LESSER)
 }
 
 pub fn version_allowed(version: u16) -> bool
     ensures { result ≡ version_allowed version }
 {
-    (1 <= version) & (version <= 999)
+    (1..=999).contains(&version)
 }
 
 pub fn count_allowed(count: u16) -> bool
     ensures { result ≡ count_allowed count }
 {
-    (1 <= count) & (count <= 200)
+    (1..=200).contains(&count)
 }
 
 pub fn contract_allowed(contract: u8) -> bool
     ensures { result ≡ contract_allowed contract }
 {
-    (1 <= contract) & (contract <= 99)
+    (1..=99).contains(&contract)
 }
 
 pub fn quantity_allowed(kilowatts: u32) -> bool
@@ -73,7 +75,7 @@ pub fn differing_allowed(old: bool, n: u8, differing: u8) -> bool
     ensures { result ≡ allowed_in old n differing }
 {
     if old {
-        return (1 <= differing) & (differing <= 3);
+        return (1..=3).contains(&differing);
     }
     differing <= n
 }

@@ -1,4 +1,6 @@
 // A rights block. Entering asks the same of a block that is to become one.
+#![tactic(auto, using(layout::proofs::Tests::tests), unfolding(paper::specs::Sound::right_fields, paper::specs::Sound::right_sound))]
+
 ghost use Rattle.std.specs.Prelude.{◌≡◌, ◌≤◌};
 ghost use Rattle.paper.specs.Layout.{n_of};
 ghost use Rattle.paper.specs.Sound.{right_fields, right_sound};

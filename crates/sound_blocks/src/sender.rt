@@ -1,4 +1,6 @@
 // A sender block, but for its count, which is judged for all senders at once.
+#![tactic(auto, using(layout::proofs::Tests::tests), unfolding(paper::specs::Sound::sender_fields, paper::specs::Sound::sender_day_and_nets))]
+
 ghost use Rattle.std.specs.Prelude.{◌≡◌, ◌≤◌};
 ghost use Rattle.paper.specs.Layout.{n_of};
 ghost use Rattle.paper.specs.Sound.{sender_fields, sender_day_and_nets};

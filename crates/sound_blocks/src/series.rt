@@ -1,4 +1,6 @@
 // A series block.
+#![tactic(auto, using(layout::proofs::Tests::tests), unfolding(paper::specs::Sound::parties_of, paper::specs::Sound::owner_sound, paper::specs::Sound::partner_sound, paper::specs::Sound::series_fields, paper::specs::Sound::series_codes, paper::specs::Sound::series_values, paper::specs::Sound::series_sound))]
+
 ghost use Rattle.std.specs.Prelude.{◌≡◌, ◌≤◌};
 ghost use Rattle.laws.specs.Cut.{cut};
 ghost use Rattle.paper.specs.Layout.{n_of};
@@ -13,6 +15,7 @@ use field::{id_well_formed, part_of, same};
 use layout::{
     area, first, id_of, in_party, n_of, out_party, pair, partner, sender, senders_slot, version,
 };
+use paper::Slot;
 use slots::{is_external, is_sender, is_series, numbered};
 
 // A submission asks the same of a message's series. An external schedule may have its sender as both parties.
@@ -34,7 +37,7 @@ fn owner_sound(us: &[u8], x: &[u8]) -> bool
 fn partner_sound(us: &[u8], x: &[u8]) -> bool
     ensures { result ≡ partner_sound (cut 512 us.now) x.now }
 {
-    (partner(x).0 == 0) | is_series(numbered(us, partner(x)))
+    (partner(x) == Slot(0)) | is_series(numbered(us, partner(x)))
 }
 
 fn series_fields(d: &[u8], x: &[u8]) -> bool

@@ -1,14 +1,20 @@
 -- The lines that answer a stream's records: a word, numbers in decimal and bytes in hex, with single spaces between, and a newline, 10.
 pub mod Laws
+use Rattle.std.specs.Borrow.{MutBor}
 use Rattle.std.specs.Prelude.{cond, List, [], ◌∷◌, ◌++◌, ℕ, ◌+◌, ◌/◌, ◌%◌, length}
 use Rattle.laws.specs.Tests.{is, less}
 use Rattle.paper.specs.Layout.{Bytes}
 use Rattle.paper.specs.Listing.{text}
+use Rattle.desk_text.specs.Put.{Put}
 use Rattle.desk_text.specs.Words.{lines, line_numbered}
 use Rattle.desk_text.specs.Numbers.{number_text}
 
--- a piece of text for each number, one behind the other
-unfoldable pub pieces : (ℕ → Bytes) → List ℕ → Bytes
+-- after a call, by what is known of it, the line has the piece of the item that it was given
+abbrev pub PutsEach : {A : Type 0} → (A → Bytes) → (MutBor Bytes → ℕ → A → ℕ → MutBor Bytes → Type 0) → Type 0
+PutsEach piece call = (b e : MutBor Bytes) (k r : ℕ) (x : _) → call b k x r e → Put k (piece x) r b.now e.now
+
+-- a piece of text for each item, one behind the other
+unfoldable pub pieces : {A : Type 0} → (A → Bytes) → List A → Bytes
 pieces f [] = []
 pieces f (x ∷ xs) = f x ++ pieces f xs
 

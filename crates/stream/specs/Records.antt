@@ -1,10 +1,18 @@
 -- The length of a record's body: at least the fewest and at most the most bytes of its kind.
-use Rattle.std.specs.Prelude.{Bool, List, [], ◌∷◌, ℕ, get_or}
+use Rattle.std.specs.Prelude.{◌≡◌, Bool, false, List, [], ◌∷◌, ℕ, get_or}
+use Rattle.std.specs.declared.ops.RangeInclusive.{RangeInclusive}
+use Rattle.std.specs.Range.{range_inclusive_start, range_inclusive_end, range_inclusive_exhausted}
 use Rattle.laws.specs.Tests.{◌and◌, upto}
-use Rattle.stream.specs.declared.input.Sizes.{Sizes}
+
+abbrev pub Sizes : Type 0
+Sizes = ℕ × ℕ
 
 abbrev pub sizes : (fewest most : ℕ) → Sizes
-sizes fewest most = record { 0 = fewest; 1 = most }
+sizes fewest most = (fewest, most)
+
+-- a range from the fewest to the most, of which nothing is taken yet
+abbrev pub Spans : RangeInclusive ℕ → Sizes → Type 0
+Spans r s = (range_inclusive_start r ≡ s.0) × (range_inclusive_end r ≡ s.1) × (range_inclusive_exhausted r ≡ false)
 
 -- for a tag that is none no length is lawful
 abbrev pub unknown : Sizes

@@ -5,4 +5,5 @@ pub mod buffer;
 pub mod fields;
 pub mod input;
 pub mod line;
+pub mod tag;
 pub mod told;

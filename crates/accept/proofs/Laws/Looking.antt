@@ -1,8 +1,8 @@
 -- One look at a slot, and the pass over all of them, as the code makes them: what is found stands in a row that has room for 200 series.
 use Rattle.std.specs.Prelude.{◌≡◌, ◌+◌, ◌-◌, ◌≤◌, ◌<◌}
-use Rattle.laws.specs.Kit.{refl, sym, ap, ◌∙◌, true, false, List, [], ℕ, arith, length, take, get_or, set, set-get_or, get_or-set_same, get_or-set_other, length-set, length-take-le, is, split, is_yes, is_no, is_equal, is_other}
+use Rattle.laws.specs.Kit.{sym, ap, ◌∙◌, true, false, List, [], ℕ, arith, length, take, get_or, set, set-get_or, get_or-set_same, get_or-set_other, length-set, length-take-le, is, split, is_yes, is_no, is_equal, is_other}
 use native.Mathlib.Decide.{ℕ_discrete}
-use Rattle.laws.specs.Lists.{place, every}
+use Rattle.laws.specs.Lists.{place}
 use Rattle.laws.specs.Lists.Each.{all_each, every_all, all_get_or_inside}
 use Rattle.laws.specs.Lists.Search.{all_has_no, has_no_place, place_length}
 use Rattle.paper.specs.Layout.{Block, zeros, senders_slot}

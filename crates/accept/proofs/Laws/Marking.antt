@@ -1,7 +1,7 @@
 -- A mark is worked out from kind, sender's slot, type, pair and quantities of the blocks, and a mark that is put right changes none of these: so a list
 -- of which some blocks are marked anew gives the same marks, and the same partners.
 use Rattle.std.specs.Prelude.{◌≡◌, ◌+◌, ◌<◌}
-use Rattle.laws.specs.Kit.{refl, sym, ap, ◌∙◌, Bool, true, false, Option, none, some, option_map, List, [], map, ℕ, arith, length, get_or, set, set-get_or, ◌and◌, ◌or◌, neg, is}
+use Rattle.laws.specs.Kit.{refl, sym, ap, ◌∙◌, Bool, true, false, Option, none, some, option_map, List, [], map, ℕ, length, get_or, set, set-get_or, ◌and◌, neg, is}
 use Rattle.laws.specs.Lists.{same, find, place, has}
 use Rattle.laws.specs.Lists.Search.{has_map_each, find_map, place_map_each}
 use Rattle.laws.specs.InPlace.{done, done_seen, done_next, done_more}

@@ -1,7 +1,7 @@
 -- After an acceptance the sender's trades are those of its message. So both sides of a trade are told by their number in the message: the sender's has for its partner
 -- what the looks have found, and the other side has that one. A series of the sender with no number is no trade, and has none.
 use Rattle.std.specs.Prelude.{◌≡◌, ◌+◌, ◌-◌, ◌≤◌, ◌<◌}
-use Rattle.laws.specs.Kit.{refl, sym, ap, ◌∙◌, Bool, true, false, cond, Option, List, [], ℕ, arith, length, take, get_or, get_or-take, ◌and◌, ◌or◌, neg, is, split, clash, and_left, and_right, or_else, is_yes, is_no, neg_true, neg_false}
+use Rattle.laws.specs.Kit.{sym, ap, ◌∙◌, Bool, true, false, Option, List, [], ℕ, arith, length, take, get_or, get_or-take, neg, is, split, clash, and_left, and_right, or_else, is_yes, is_no, neg_true, neg_false}
 use Rattle.laws.specs.Lists.{place, has}
 use Rattle.laws.specs.Lists.Each.{all_get_or_inside}
 use Rattle.laws.specs.Lists.Search.{has_no_all, place_is_not_0, place_none, place_length, has_viewed}
@@ -20,7 +20,7 @@ use Rattle.facts.specs.Looks.{sent_inside}
 use Rattle.facts.specs.Partners.{Homes, own_partner, other_partner}
 use Rattle.accept.specs.Fits.{Placing}
 use Rattle.marks.proofs.Laws.{no_counterpart}
-use Rattle.accept.specs.Steps.{TradeNumbers, Housed, touched_by, partner_by, Side, Sides}
+use Rattle.accept.specs.Steps.{TradeNumbers, Housed, touched_by, partner_by, Sides}
 
 module _ (n : ℕ) (ours : Bytes) (many : ℕ) (us : List Block) (h : Block) (series : List Block) (p : Placing n ours many us h series) where
   abbrev home : ℕ

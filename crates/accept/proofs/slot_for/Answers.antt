@@ -1,9 +1,11 @@
 -- A sender with no slot gets the one behind the used.
-use Rattle.laws.specs.Kit.{is_equal, is_other}
+use Rattle.laws.specs.Kit.{is}
 use Rattle.accept.proofs.slot_for.Goals as goal
 
-pub returns-then-had-eq0 : goal.returns-then-had-eq0
-returns-then-had-eq0 c = rw (is_equal _ 0 c.if-had-eq0.true)
+pub returns-then-eq : goal.returns-then-eq
+unfolding is
+returns-then-eq c = rw (← c.if-eq.ensures)
 
-pub returns-else-had-eq0 : goal.returns-else-had-eq0
-returns-else-had-eq0 c = rw (is_other _ 0 c.if-had-eq0.false)
+pub returns-else-eq : goal.returns-else-eq
+unfolding is
+returns-else-eq c = rw (← c.if-eq.ensures)

@@ -1,4 +1,4 @@
--- Turns of the loops over blocks: the test so far and the blocks that are left still give the test of all.
+-- Turns of the loop over blocks: the test so far and the blocks that are left still give the test of all.
 use Rattle.std.specs.Prelude.{◌≡◌, ◌∷◌, ◌+◌, ◌-◌, ◌*◌, ◌≤◌, ◌<◌}
 use Rattle.laws.specs.Kit.{refl, sym, ap, ◌∙◌, Bool, List, ℕ, mul-zero, mul-one, add-sub_cancel_left, arith, length, take, drop, length-drop, drop-drop, ◌and◌, and_true, and_assoc}
 use Rattle.laws.specs.Lists.{every}
@@ -24,11 +24,7 @@ module _ (p : List ℕ → Bool) where
       let k : 0 < 512 = omega arith in
       rw (every_cut 512 0 v k (omega arith), every_cut 512 512 v k (omega arith), every_cut 512 1024 v k (omega arith), every_cut 512 1536 v k (omega arith)) (simp and_assoc)
 
-  -- turns of loops over blocks of 512, one and four at once: what is tested and what is left still give the whole
-  pub turn_1 : (i : ℕ) (s : List ℕ) (ok : Bool) {q t : Bool} → i + 512 ≤ length s → q ≡ p (take (i + 512 - i) (drop i s))
-      → (ok and every p (cut 512 (drop i s))) ≡ t → (ok and q and every p (cut 512 (drop (i + 512) s))) ≡ t
-  turn_1 i s ok h e g = rw (e, part_slice i (i + 512) 512 s refl, and_assoc, ← every_cut 512 i s (omega arith) h) g
-
+  -- a turn over four blocks of 512: what is tested and what is left still give the whole
   pub turn_4 : (i : ℕ) (s : List ℕ) (ok : Bool) {q t : Bool} → i + 2048 ≤ length s
       → q ≡ (p (part 0 512 (take (i + 2048 - i) (drop i s))) and (p (part 512 512 (take (i + 2048 - i) (drop i s))) and (p (part 1024 512 (take (i + 2048 - i) (drop i s))) and p (part 1536 512 (take (i + 2048 - i) (drop i s))))))
       → (ok and every p (cut 512 (drop i s))) ≡ t → (ok and q and every p (cut 512 (drop (i + 2048) s))) ≡ t
@@ -37,8 +33,3 @@ module _ (p : List ℕ → Bool) where
       let l : 2048 ≤ length v = rw (length-drop i s) (omega arith) in
       rw (e, add-sub_cancel_left, part_take 0 512 2048 v (omega arith), part_take 512 512 2048 v (omega arith), part_take 1024 512 2048 v (omega arith), part_take 1536 512 2048 v (omega arith), ← drop-drop 2048 i s)
       (and_assoc ok _ _ ∙ (rw (every_four v l) at g))
-
-  -- their end
-  pub turned : (i : ℕ) (s : List ℕ) (ok : Bool) {t : Bool} → length s - i < 512 → (ok and every p (cut 512 (drop i s))) ≡ t → ok ≡ t
-  unfolding every
-  turned i s ok h g = sym (and_true ok) ∙ (rw (cut_short 512 (drop i s) (rw (length-drop i s) h)) at g)

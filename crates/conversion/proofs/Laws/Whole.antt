@@ -8,7 +8,7 @@ use Rattle.laws.specs.Slices.{rest_slice}
 use Rattle.laws.specs.Cut.{cut, join}
 use Rattle.laws.specs.Cut.Laws.{join_cut}
 use Rattle.paper.specs.Layout.{Bytes, n_of, area}
-use Rattle.paper.specs.Book.{day_block, slots, is_free, used}
+use Rattle.paper.specs.Book.{day_block, is_free, used}
 use Rattle.paper.specs.Conversion.{old_sound, conversion_number, used_converted, converted}
 use Rattle.facts.specs.Sound.{Sound, sound_says, book_least, day_n}
 use Rattle.facts.specs.Conversion.{old_sound_is_sound, converts, conversion_refused}

@@ -13,7 +13,7 @@ returns-then-is_sender c =
     ∙ ap (set (cut 512 c.args.us.now) c.args.i) (sender_becomes _ _ _ _ c.block_at.ensures c.is_sender.ensures c.if-is_sender.true c.block_at-then-is_sender.ensures c.own_nets-sums.ensures)
 
 pub mark_in-m-requires : goal.mark_in-m-requires
-mark_in-m-requires c = (c.requires.1, c.requires.2, c.requires.3)
+mark_in-m-requires c = (c.requires.1, c.requires.3)
 
 pub returns-then-is_series : goal.returns-then-is_series
 returns-then-is_series c =

@@ -13,4 +13,4 @@ returns-then-answer-ne0 c = refused _ c.if-answer-ne0.true c.put_telling-a.ensur
 
 pub returns : goal.returns
 unfolding final_line chosen_text same_rule is text
-returns c = accepted _ c.if-answer-ne0.false c.put_telling-a.ensures (then c.put_megawatts-b.ensures c.put_either.ensures)
+returns c = accepted _ c.if-answer-ne0.false c.put_telling-a.ensures (then c.put_megawatts-b.ensures (rw c.eq.ensures at c.put_either.ensures))

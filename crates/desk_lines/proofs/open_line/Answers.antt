@@ -8,7 +8,7 @@ use Rattle.desk_lines.proofs.open_line.Goals as goal
 
 pub returns-then-answer-eq0 : goal.returns-then-answer-eq0
 unfolding open_line settling_text same_rule is text
-returns-then-answer-eq0 c = rw (is_equal _ _ c.if-answer-eq0.true) (then c.put_answer_of-a.ensures c.put_either.ensures)
+returns-then-answer-eq0 c = rw (is_equal _ _ c.if-answer-eq0.true) (then c.put_answer_of-a.ensures (rw c.eq.ensures at c.put_either.ensures))
 
 pub returns : goal.returns
 unfolding open_line text

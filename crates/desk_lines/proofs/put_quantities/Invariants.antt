@@ -1,11 +1,8 @@
-use Rattle.std.specs.Prelude.{◌≡◌, ◌≤◌, ◌-◌}
+use Rattle.std.specs.Prelude.{◌≡◌}
 use Rattle.laws.specs.Kit.{length}
 use Rattle.desk_text.specs.Put.{Put}
 use Rattle.desk_lines.specs.Lines.{quantities_text}
 use Rattle.desk_lines.proofs.put_quantities.Given as goal
 
 abbrev pub invariant-loop-k : goal.invariant-loop-k
-invariant-loop-k l = (length l.line ≡ length l.initial.line) × (l.k ≤ l.n) × Put l.initial.place (quantities_text l.q l.k) l.place l.initial.line l.line
-
-abbrev pub decreases-loop-k : goal.decreases-loop-k
-decreases-loop-k l = l.n - l.k
+invariant-loop-k l = (length l.line ≡ length l.initial.line) × Put l.initial.place (quantities_text l.q l.k) l.place l.initial.line l.line

@@ -27,7 +27,7 @@ within_add a b m =
 
 -- ---- pieces, one behind the other
 
-then_text : (a m : ℕ) (q w : List ℕ) → length w ≡ m → written (within a m) q w ≡ written a q w
+pub then_text : (a m : ℕ) (q w : List ℕ) → length w ≡ m → written (within a m) q w ≡ written a q w
 then_text a m q w e =
     split (less m a)
     (λ t. let l : m < a = less_yes m a t in rw (within_past a m (omega arith)) (written_past m q w (omega arith) ∙ sym (written_past a q w (omega arith))))

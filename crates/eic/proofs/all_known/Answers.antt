@@ -3,12 +3,12 @@ use Rattle.laws.specs.Kit.{arith, refl, step_byte, end_list, ◌and◌, neg, is,
 use Rattle.eic.specs.Values.{known}
 use Rattle.eic.proofs.all_known.Goals as goal
 
-pub loop-i-init : goal.loop-i-init
-loop-i-init c = (omega arith, every_start _ _)
+pub loop-value-init : goal.loop-value-init
+loop-value-init c = every_start _ _
 
-pub loop-i-preserved : goal.loop-i-preserved
+pub loop-value-preserved : goal.loop-value-preserved
 unfolding ◌and◌ known neg is
-loop-i-preserved c = (omega arith, every_go known c.loop-i.ok c.loop-i.invariant.1 (step_byte _ _ c.loop-i-test.true) refl)
+loop-value-preserved c = every_go known c.loop-value.ok c.loop-value.invariant (step_byte _ _ c.loop-value-test.true) refl
 
 pub returns : goal.returns
-returns c = every_end _ _ c.loop-i.invariant.1 (end_list _ _ c.loop-i-test.false)
+returns c = every_end _ _ c.loop-value.invariant (end_list _ _ c.loop-value-test.false)

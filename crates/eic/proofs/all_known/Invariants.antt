@@ -4,8 +4,5 @@ use Rattle.laws.specs.Lists.{every}
 use Rattle.eic.specs.Values.{known}
 use Rattle.eic.proofs.all_known.Given as goal
 
-abbrev pub invariant-loop-i : goal.invariant-loop-i
-invariant-loop-i l = (l.i ≤ length l.values) × (every known l.values ≡ (l.ok and every known (drop l.i l.values)))
-
-abbrev pub decreases-loop-i : goal.decreases-loop-i
-decreases-loop-i l = length l.values - l.i
+abbrev pub invariant-loop-value : goal.invariant-loop-value
+invariant-loop-value l = every known l.values ≡ (l.ok and every known (drop l.value-index l.values))

@@ -4,7 +4,4 @@ use Rattle.paper.specs.Eic.{character_value}
 use Rattle.eic.proofs.values_of.Given as goal
 
 abbrev pub invariant-loop-i : goal.invariant-loop-i
-invariant-loop-i l = (l.i ≤ 16) × (length l.values ≡ 16) × (take l.i l.values ≡ map character_value (take l.i l.s))
-
-abbrev pub decreases-loop-i : goal.decreases-loop-i
-decreases-loop-i l = 16 - l.i
+invariant-loop-i l = (length l.values ≡ 16) × (take l.i l.values ≡ map character_value (take l.i l.s))

@@ -1,13 +1,11 @@
--- The block is written only where the number is 0, and behind the used slots.
-use Rattle.entering.proofs.Laws.{book_long, refused, passed, written_in}
+-- The block is written only where there is a place, and behind the used slots.
+use Rattle.laws.specs.Kit.{refl, sym, ◌∙◌}
+use Rattle.entering.proofs.Laws.{refused, refusal_other, written_in}
 use Rattle.entering.proofs.enter_right.Goals as goal
 
-pub returns-then-number-ne0 : goal.returns-then-number-ne0
-returns-then-number-ne0 c = refused _ _ c.enter_number-number.ensures c.if-number-ne0.true
+pub returns-in-Ok : goal.returns-in-Ok
+returns-in-Ok c = written_in _ _ c.in-Ok.ensures.number refl c.in-Ok.ensures.place c.write_bytes.ensures
 
-pub first_free-at-requires : goal.first_free-at-requires
-first_free-at-requires c = book_long _ (passed _ _ c.enter_number-number.ensures c.if-number-ne0.false)
-
-pub returns : goal.returns
-returns c =
-    written_in _ _ c.enter_number-number.ensures c.if-number-ne0.false c.first_free-at.ensures c.write_bytes.ensures
+pub returns-in-Err : goal.returns-in-Err
+returns-in-Err c =
+    refused _ _ (c.number.ensures ∙ c.in-Err.ensures.number) (λ z. refusal_other c.in-Err.refusal (sym c.number.ensures ∙ z))

@@ -1,13 +1,8 @@
--- What is found so far, with the test of the bytes left, is the test of all.
-use Rattle.laws.specs.Kit.{arith, step_byte, end_list, every_start, every_go, every_end}
+use Rattle.std.proofs.Common.{rules}
+use Rattle.std.proofs.lemmas.Iterator.{YieldsList-from_slice}
+use Rattle.laws.specs.Chains.{every_all}
 use Rattle.paper.specs.Ids.{digit}
 use Rattle.field.proofs.all_digits.Goals as goal
 
-pub loop-i-init : goal.loop-i-init
-loop-i-init c = (omega arith, every_start _ _)
-
-pub loop-i-preserved : goal.loop-i-preserved
-loop-i-preserved c = (omega arith, every_go digit c.loop-i.ok c.loop-i.invariant.1 (step_byte _ _ c.loop-i-test.true) c.digit-ok.ensures)
-
 pub returns : goal.returns
-returns c = every_end _ _ c.loop-i.invariant.1 (end_list _ _ c.loop-i-test.false)
+returns c = every_all digit (YieldsList-from_slice _ c.iter.ensures.rest) (λ x b q k. search rules) c.all.ensures.ran

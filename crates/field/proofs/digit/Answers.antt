@@ -1,8 +1,8 @@
--- The code is the definition, word for word.
-use Rattle.laws.specs.Kit.{refl, ◌and◌, upto}
+-- The library's class of characters is the definition's.
+use Rattle.laws.specs.Kit.{◌and◌, upto}
 use Rattle.paper.specs.Ids.{digit}
 use Rattle.field.proofs.digit.Goals as goal
 
 pub returns : goal.returns
 unfolding digit ◌and◌ upto
-returns c = refl
+returns c = c.is_ascii_digit.ensures.value

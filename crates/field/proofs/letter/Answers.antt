@@ -1,8 +1,8 @@
--- The code is the definition, word for word.
-use Rattle.laws.specs.Kit.{refl, ◌and◌, upto}
+-- The library's class of characters is the definition's.
+use Rattle.laws.specs.Kit.{◌and◌, upto}
 use Rattle.paper.specs.Ids.{letter}
 use Rattle.field.proofs.letter.Goals as goal
 
 pub returns : goal.returns
 unfolding letter ◌and◌ upto
-returns c = refl
+returns c = c.is_ascii_uppercase.ensures.value

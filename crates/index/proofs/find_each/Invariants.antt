@@ -1,12 +1,13 @@
-use Rattle.std.specs.Prelude.{◌≡◌, ◌≤◌, ◌-◌, ◌/◌}
+use Rattle.std.specs.Prelude.{◌≡◌, Bool, List, ℕ}
+use Rattle.std.specs.Fn.{FnReturnsAt}
 use Rattle.laws.specs.Kit.{length}
+use Rattle.laws.specs.Lists.{place}
 use Rattle.laws.specs.Cut.{cut}
-use Rattle.index.specs.Linked.{own_with}
+use Rattle.paper.specs.Layout.{Block}
 use Rattle.index.specs.Linked.Laws.{FoundUpto}
 use Rattle.index.proofs.find_each.Given as goal
 
 abbrev pub invariant-loop-k : goal.invariant-loop-k
-invariant-loop-k l = (l.k ≤ length l.of / 512) × FoundUpto (own_with l.own l.by) (cut 512 l.us) (cut 512 l.of) l.k l.found × (length l.found ≡ 1000)
-
-abbrev pub decreases-loop-k : goal.decreases-loop-k
-decreases-loop-k l = length l.of / 512 - l.k
+invariant-loop-k g l =
+    (length l.found ≡ 1000)
+    × ((sought : Block → Block → Bool) (us : List Block) → ((y : Block) (n : ℕ) → FnReturnsAt g.F.Fn l.find y n → n ≡ place (sought y) us) → FoundUpto sought us (cut 512 l.of) l.k l.found)

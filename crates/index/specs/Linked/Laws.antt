@@ -1,27 +1,29 @@
 -- The links made, from the last block back, and followed: what they leave out is of other buckets.
-use Rattle.std.specs.Prelude.{◌≡◌, Bool, true, false, cond, ℕ, zero, suc, ◌+◌, ◌-◌, ◌/◌, ◌≤◌, ◌<◌, drop, set}
+use Rattle.std.specs.Prelude.{◌≡◌, Bool, true, false, cond, Option, None, Some, IfSome, ℕ, zero, suc, ◌+◌, ◌-◌, ◌≤◌, ◌<◌, drop, set}
+use Rattle.std.specs.Fn.{FnReturnsAt, Shared}
+use Rattle.std.specs.Option.{is_some}
+use denote.Ref.{Bor}
 use Rattle.std.proofs.Math.Path.{refl, sym, ap}
-use Rattle.std.proofs.Common.{◌∙◌, arith, length-drop, length-set, drop_of_length-le, drop-drop, get_or-drop, get_or-set_same}
+use Rattle.std.proofs.Common.{◌∙◌, arith, add-zero, length-drop, length-set, drop_of_length-le, drop-drop, get_or-drop, get_or-set_same}
 use mathlib.Core.List.{List, [], ◌∷◌, map}
 use Rattle.std.proofs.Math.Numerals.{add-one}
 use Rattle.std.proofs.Math.ListN.{length, get_or, get_or-map, length-map}
 use Rattle.std.proofs.Math.Seq.{get_or-set_other}
 use Rattle.laws.specs.Tests.{◌and◌, is, less}
 use Rattle.laws.specs.Tests.Laws.{split, clash, is_yes, is_no, is_equal, less_yes, less_no, and_left, and_right, and_both}
-use Rattle.laws.specs.Lists.{place}
+use Rattle.laws.specs.Lists.{place, count}
 use Rattle.laws.specs.Lists.Same.{same_yes}
 use Rattle.laws.specs.Lists.Each.{all_imply, every_all, all_get_or}
-use Rattle.laws.specs.Cut.{cut}
-use Rattle.laws.specs.Cut.Laws.{cut_length}
-use Rattle.laws.specs.Loops.{place_from, place_start, place_go, place_hit}
+use Rattle.laws.specs.Loops.{place_from, place_go, place_hit}
 use Rattle.laws.specs.Skips.{Skips, none_passes, first_passes, step_at}
-use Rattle.paper.specs.Layout.{Bytes, Block, zeros, pair}
+use Rattle.paper.specs.Layout.{Block, zeros, pair}
 use Rattle.paper.specs.Book.{is_series, is_series_of, id_is}
 use Rattle.facts.specs.Keys.{key_is_yes, key_parties_agreement}
 use Rattle.facts.specs.Pairs.{trade_pair}
+use Rattle.index.specs.Ahead.{Ahead}
 use Rattle.index.specs.declared.By.{By}
 use Rattle.index.specs.declared.By.TheVariants.{Id, Key, Trade}
-use Rattle.index.specs.Linked.{bucket, hashed, alike, own_in, series_in, Heads, Nexts, Links, own_with, FoundBy}
+use Rattle.index.specs.Linked.{bucket, hashed, alike, own_in, series_in, Heads, Nexts, Links, Told, Search, Finds, own_with, FoundBy}
 
 -- ---- a walk on its way, at the place at: w is what f makes of the blocks from there on
 
@@ -31,97 +33,131 @@ pub record Walk {R : Type 0} (p : Block → Bool) (f : ℕ → List Block → R)
   pub linked : (at ≡ 0 → ⊥) → p (get_or l (at - 1) []) ≡ true
   pub rest : (at ≡ 0 → ⊥) → w ≡ f (at - 1) (drop (at - 1) l)
 
-module _ {R : Type 0} (p : Block → Bool) (f : ℕ → List Block → R) (z : R) (s : Skips p f z) (l : List Block) (w : R) where
-  pub record From (t at : ℕ) : Type 0 where
-    pub walk : Walk p f z l w at
-    pub later : (at ≡ 0 → ⊥) → t ≤ at - 1
+-- the same, from block t on
+pub record From {R : Type 0} (p : Block → Bool) (f : ℕ → List Block → R) (z : R) (l : List Block) (w : R) (t at : ℕ) : Type 0 where
+  pub walk : Walk p f z l w at
+  pub later : (at ≡ 0 → ⊥) → t ≤ at - 1
 
-  from : (t at : ℕ) → at ≡ place_from t p (drop t l) → w ≡ f t (drop t l) → From t at
-  from t zero e a = record {
-    walk = record { last = λ y. a ∙ none_passes p f z s t (drop t l) e; inside = λ n. absurd (n refl); linked = λ n. absurd (n refl); rest = λ n. absurd (n refl) };
-    later = λ n. absurd (n refl);
-  }
-  from t (suc n) e a =
-      let h = first_passes p f z s [] t (drop t l) n e in
-      let m : ℕ = h.0 in
-      let i : m < length (drop t l) = h.2 in
-      let k : suc n - 1 ≡ t + m = omega (arith, h.1) in
-      record {
-        walk = record {
-          last = λ y. absurd (omega arith);
-          inside = λ _. omega (arith, length-drop t l);
-          linked = λ _. rw k (ap p (sym (get_or-drop t l m [])) ∙ h.3);
-          rest = λ _. rw k (a ∙ h.4 ∙ ap (f (t + m)) (drop-drop m t l));
-        };
-        later = λ _. omega arith;
-      }
+pub from : {R : Type 0} (p : Block → Bool) (f : ℕ → List Block → R) (z : R) (s : Skips p f z) (l : List Block) (w : R) (t at : ℕ)
+    → at ≡ place_from t p (drop t l) → w ≡ f t (drop t l) → From p f z l w t at
+from p f z s l w t zero e a = record {
+  walk = record { last = λ y. a ∙ none_passes p f z s t (drop t l) e; inside = λ n. absurd (n refl); linked = λ n. absurd (n refl); rest = λ n. absurd (n refl) };
+  later = λ n. absurd (n refl);
+}
+from p f z s l w t (suc n) e a =
+    let h = first_passes p f z s [] t (drop t l) n e in
+    let m : ℕ = h.0 in
+    let i : m < length (drop t l) = h.2 in
+    let k : suc n - 1 ≡ t + m = omega (arith, h.1) in
+    record {
+      walk = record {
+        last = λ y. absurd (omega arith);
+        inside = λ _. omega (arith, length-drop t l);
+        linked = λ _. rw k (ap p (sym (get_or-drop t l m [])) ∙ h.3);
+        rest = λ _. rw k (a ∙ h.4 ∙ ap (f (t + m)) (drop-drop m t l));
+      };
+      later = λ _. omega arith;
+    }
 
 -- how far it is to the end
 unfoldable pub left : ℕ → ℕ
 left zero = 0
 left (suc n) = 1001 - suc n
 
-left_less : (l : List Block) → length l ≤ 1000 → (j m : ℕ) → (j ≡ 0 → ⊥) → j - 1 < length l → ((m ≡ 0 → ⊥) → j - 1 + 1 ≤ m - 1) → ((m ≡ 0 → ⊥) → m - 1 < length l) → left m < left j
+pub left_most : (at : ℕ) → at ≤ 1000 → 0 + left at ≤ 1000
 unfolding left
-left_less l few zero m c d u v = absurd (c refl)
-left_less l few (suc j) zero c d u v = omega arith
-left_less l few (suc j) (suc m) c d u v = omega (arith, u (λ z. omega arith), v (λ z. omega arith))
+left_most zero h = omega arith
+left_most (suc n) h = omega arith
 
--- along the links: from the first block of a bucket, and from a block to the next
-module _ (p : ℕ → Block → Bool) (s : Bytes) (g : ℕ) {R : Type 0} (f : ℕ → List Block → R) (z : R) (k : Skips (p g) f z) where
-  pub walk_head : (heads : List ℕ) → Heads p (cut 512 s) 0 heads → {b at : ℕ} {w : R} → b ≡ g → b < 1024 → at ≡ get_or heads b 0 → w ≡ f 0 (cut 512 s) → Walk (p g) f z (cut 512 s) w at
-  unfolding Heads
-  walk_head heads a {w = w} e h q v = (from (p g) f z k (cut 512 s) w 0 _ (q ∙ ap (λ j. get_or heads j 0) e ∙ a g (rw e at h)) v).walk
-
-  module _ (nexts : List ℕ) (a : Nexts p (cut 512 s) 0 nexts) where
-    behind : (i : ℕ) → i < length (cut 512 s) → p g (get_or (cut 512 s) i []) ≡ true → {m : ℕ} → m ≡ get_or nexts i 0 → {w : R} → w ≡ f (i + 1) (drop (i + 1) (cut 512 s)) → From (p g) f z k (cut 512 s) w (i + 1) m
-    unfolding Nexts
-    behind i h t q {w} v = from (p g) f z k (cut 512 s) w (i + 1) _ (q ∙ a i (omega arith) h g t) v
-
-    pub walk_next : (i : ℕ) → i < length (cut 512 s) → p g (get_or (cut 512 s) i []) ≡ true → {m : ℕ} → m ≡ get_or nexts i 0 → {w : R} → w ≡ f (i + 1) (drop (i + 1) (cut 512 s)) → Walk (p g) f z (cut 512 s) w m
-    walk_next i h t q v = (behind i h t q v).walk
-
-    -- a step further is nearer to the end: places grow, and the end is 0
-    pub walk_nearer : length s / 512 ≤ 1000 → {at : ℕ} {w : R} → Walk (p g) f z (cut 512 s) w at → (at ≡ 0 → ⊥) → {m : ℕ} → m ≡ get_or nexts (at - 1) 0 → left m < left at
-    walk_nearer few {at} o n q =
-        let b = behind (at - 1) (o.inside n) (o.linked n) q refl in
-        left_less (cut 512 s) (rw (cut_length 512 s) few) at _ n (o.inside n) b.later b.walk.inside
-
-pub walk_inside : {R : Type 0} {p : Block → Bool} {f : ℕ → List Block → R} {z : R} (s : Bytes) → length s / 512 ≤ 1000 → {w : R} {at : ℕ} → Walk p f z (cut 512 s) w at → (at ≡ 0 → ⊥) → at - 1 < 1000
-walk_inside s few o n = omega (arith, o.inside n, cut_length 512 s)
+-- a step further is nearer to the end
+pub nearer : (h n : List ℕ) → Ahead h n → (at m : ℕ) → (at ≡ 0 → ⊥) → at ≤ 1000 → m ≡ get_or n (at - 1) 0 → left m < left at
+unfolding left
+nearer h n a zero m c d e = absurd (c refl)
+nearer h n a (suc j) zero c d e = omega arith
+nearer h n a (suc j) (suc m) c d e = let z : suc j - 1 ≡ j = omega arith in
+    let q : suc m ≡ get_or n j 0 = rw z at e in
+    let u : j + 1 < get_or n j 0 = a.3 j (λ w. absurd (omega (arith, q, w))) in
+    omega (arith, q, u)
 
 -- ---- a search: the first that passes q is sought among the blocks linked by p
-
-abbrev pub On : (Block → Bool) → (Block → Bool) → List Block → ℕ → ℕ → Type 0
-On p q l w at = Walk p (λ k. place_from k q) 0 l w at
 
 sought : (p q : Block → Bool) → ((x : Block) → q x ≡ true → p x ≡ true) → Skips p (λ k. place_from k q) 0
 unfolding place_from
 sought p q f = record { skip = λ k x xs e. let n : q x ≡ false = split (q x) (λ u. clash (f x u) e) (λ u. u) in rw n; empty = λ k. refl }
 
-module _ (p : ℕ → Block → Bool) (s : Bytes) (heads nexts : List ℕ) (few : length s / 512 ≤ 1000) (a : Links p (cut 512 s) 0 heads nexts) (q : Block → Bool) (g : ℕ) (f : (x : Block) → q x ≡ true → p g x ≡ true) where
-  abbrev l : List Block
-  l = cut 512 s
+module _ (nexts : List ℕ) (gives : ℕ → Bool → Type 0) (start : ℕ) where
+  -- what is passed by is not sought
+  abbrev pub Going : ℕ → Type 0
+  Going at =
+      (l : List Block) (p q : Block → Bool) (t : ℕ) → Search nexts gives l p q t → start ≡ place_from t p (drop t l) → From p (λ k. place_from k q) 0 l (place_from t q (drop t l)) t at
 
-  pub begun : {b at : ℕ} → b ≡ g → b < 1024 → at ≡ get_or heads b 0 → On (p g) q l (place q l) at
-  begun e h k = walk_head p s g (λ k. place_from k q) 0 (sought (p g) q f) heads a.begin e h k (place_start q l)
+  pub going_start : Going start
+  going_start l p q t s e = from p (λ k. place_from k q) 0 (sought p q s.linked) l (place_from t q (drop t l)) t start e refl
 
-  module _ (at : ℕ) (o : On (p g) q l (place q l) at) (n : at ≡ 0 → ⊥) where
-    pub inside : at - 1 < 1000
-    inside = walk_inside s few o n
+  module _ (at : ℕ) (a : Going at) where
+    pub going_end : at ≡ 0 → Finds nexts gives start at
+    going_end z l p q t s e = z ∙ sym ((a l p q t s e).walk.last z)
 
-    module _ {t : Bool} {x : Block} (e : x ≡ get_or l (at - 1) []) (r : t ≡ q x) where
-      pub found : t ≡ true → at ≡ place q l
-      found y = let z : at - 1 + 1 ≡ at = omega arith in sym z ∙ place_hit q (o.rest n) (step_at [] l (at - 1) (o.inside n)) (ap q (sym e) ∙ sym r ∙ y)
+    module _ (n : at ≡ 0 → ⊥) where
+      pub going_hit : gives (at - 1) true → Finds nexts gives start at
+      going_hit g l p q t s e =
+          let o = (a l p q t s e).walk in
+          let z : at - 1 + 1 ≡ at = omega arith in
+          sym z ∙ place_hit q (o.rest n) (step_at [] l (at - 1) (o.inside n)) (sym (s.told (at - 1) true (o.inside n) g))
 
-      module _ (y : t ≡ false) {m : ℕ} (k : m ≡ get_or nexts (at - 1) 0) where
-        pub going : On (p g) q l (place q l) m
-        going =
-            walk_next p s g (λ k. place_from k q) 0 (sought (p g) q f) nexts a.go_on (at - 1) (o.inside n) (o.linked n) k
-            (place_go q (o.rest n) (step_at [] l (at - 1) (o.inside n)) (ap q (sym e) ∙ sym r ∙ y))
+      pub going_on : gives (at - 1) false → {m : ℕ} → m ≡ get_or nexts (at - 1) 0 → Going m
+      going_on g {m} k l p q t s e =
+          let b = a l p q t s e in
+          let o = b.walk in
+          let i : at - 1 < length l = o.inside n in
+          let w = place_go q (o.rest n) (step_at [] l (at - 1) i) (sym (s.told (at - 1) false i g)) in
+          let f = from p (λ k. place_from k q) 0 (sought p q s.linked) l (place_from t q (drop t l)) (at - 1 + 1) m (k ∙ s.along (at - 1) (b.later n) i (o.linked n)) w in
+          record { walk = f.walk; later = λ c. omega (arith, b.later n, f.later c) }
 
-        pub nearer : left m < left at
-        nearer = walk_nearer p s g (λ k. place_from k q) 0 (sought (p g) q f) nexts a.go_on few o n k
+-- in a bucket
+pub in_bucket : (p : ℕ → Block → Bool) (l : List Block) (h n : List ℕ) → Links p l 0 h n → (g : ℕ) (q : Block → Bool) (gives : ℕ → Bool → Type 0) (t : ℕ) → ((x : Block) → q x ≡ true → p g x ≡ true)
+    → ((j : ℕ) (b : Bool) → j < length l → gives j b → b ≡ q (get_or l j [])) → Search n gives l (p g) q t
+unfolding Nexts
+in_bucket p l h n a g q gives t f told = record { along = λ j c d e. a.go_on j (omega arith) d g e; linked = f; told = told }
+
+pub next_of : (p : ℕ → Block → Bool) (l : List Block) (h n : List ℕ) → Links p l 0 h n → (g j : ℕ) → j < length l → p g (get_or l j []) ≡ true → get_or n j 0 ≡ place_from (j + 1) (p g) (drop (j + 1) l)
+unfolding Nexts
+next_of p l h n a g j d e = a.go_on j (omega arith) d g e
+
+pub first_of : (p : ℕ → Block → Bool) (l : List Block) (h n : List ℕ) → Links p l 0 h n → (g : ℕ) → g < 1024 → get_or h g 0 ≡ place_from 0 (p g) (drop 0 l)
+unfolding Heads
+first_of p l h n a g c = a.begin g c
+
+-- ---- a bucket counted: n blocks of it are passed by
+
+counting : (p : Block → Bool) (n : ℕ) → Skips p (λ k r. n + count p r) n
+unfolding count
+counting p n = record { skip = λ k x xs e. rw e; empty = λ k. add-zero n }
+
+-- a block of the bucket more
+counted : (p : Block → Bool) (n : ℕ) (l : List Block) {k w : ℕ} → w ≡ n + count p (drop k l) → k < length l → p (get_or l k []) ≡ true → w ≡ n + 1 + count p (drop (k + 1) l)
+unfolding count
+counted p n l {k} e h t =
+    let s : count p (drop k l) ≡ 1 + count p (drop (k + 1) l) = ap (count p) (step_at [] l k h).rest ∙ rw t (omega arith) in
+    omega arith
+
+module _ (heads nexts : List ℕ) (g : ℕ) where
+  abbrev pub Counting : (n at : ℕ) → Type 0
+  Counting n at = (l : List Block) (p : ℕ → Block → Bool) → Links p l 0 heads nexts → Walk (p g) (λ k r. n + count (p g) r) n l (count (p g) l) at
+
+  pub counting_start : g < 1024 → {at : ℕ} → at ≡ get_or heads g 0 → Counting 0 at
+  counting_start few e l p a = (from (p g) _ _ (counting (p g) 0) l _ 0 _ (e ∙ first_of p l heads nexts a g few) (omega arith)).walk
+
+  module _ (n at : ℕ) (c : Counting n at) where
+    pub counting_end : at ≡ 0 → (l : List Block) (p : ℕ → Block → Bool) → Links p l 0 heads nexts → n ≡ count (p g) l
+    counting_end z l p a = sym ((c l p a).last z)
+
+    pub counting_on : (at ≡ 0 → ⊥) → {m : ℕ} → m ≡ get_or nexts (at - 1) 0 → Counting (n + 1) m
+    unfolding Nexts
+    counting_on z k l p a =
+        let o = c l p a in
+        let i : at - 1 < length l = o.inside z in
+        (from (p g) _ _ (counting (p g) (n + 1)) l _ (at - 1 + 1) _ (k ∙ a.go_on (at - 1) (omega arith) i g (o.linked z)) (counted (p g) n l (o.rest z) i (o.linked z))).walk
 
 -- ---- the links made: block i − 1 is put before those of its bucket that come later, or left out
 
@@ -174,28 +210,37 @@ module _ (p : ℕ → Block → Bool) (l : List Block) where
   pub none : (h n : List ℕ) → zeros h ≡ true → length h ≡ 1024 → length n ≡ 1000 → (m : ℕ) → length l ≤ m → Links p l m h n
   none h n z v w m k = record { begin = heads_none h z m k; go_on = nexts_none n m k; buckets = v; nexts_length = w }
 
-  module _ (h n : List ℕ) {x : Block} where
-    pub left_out : (i : ℕ) → 0 < i → i ≤ length l → Links p l i h n → x ≡ get_or l (i - 1) [] → ((g : ℕ) → p g x ≡ false) → Links p l (i - 1) h n
-    left_out zero c d a e f = absurd (omega arith)
-    left_out (suc k) c d a e f =
-        let z : suc k - 1 ≡ k = omega arith in
-        let y : x ≡ get_or l k [] = rw z at e in
-        rw z (record { begin = heads_left_at k (omega arith) h n a.begin (rw y at f); go_on = nexts_left_at k (omega arith) h n a.begin a.go_on (rw y at f); buckets = a.buckets; nexts_length = a.nexts_length })
+  module _ (k : ℕ) (i : k < length l) (h n : List ℕ) {m : ℕ} (e : 0 < m) (z : k ≡ m - 1) (c : Links p l m h n) where
+    from_next : Links p l (suc k) h n
+    from_next = let q : m ≡ suc k = omega arith in rw q at c
 
-    pub put : (i b : ℕ) → 0 < i → i ≤ length l → i ≤ 1000 → Links p l i h n → x ≡ get_or l (i - 1) [] → ((g : ℕ) → p g x ≡ is b g) → b < 1024 → Links p l (i - 1) (set h b i) (set n (i - 1) (get_or h b 0))
-    put zero b c d t a e f w = absurd (omega arith)
-    put (suc k) b c d t a e f w =
-        let z : suc k - 1 ≡ k = omega arith in
-        let y : x ≡ get_or l k [] = rw z at e in
-        rw z (record {
-          begin = heads_put_at k (omega arith) h n a.begin b (rw y at f) (omega (arith, a.buckets));
-          go_on = nexts_put_at k (omega arith) h n a.begin a.go_on b (rw y at f) w (omega (arith, a.nexts_length));
+    pub left_out : Told p (get_or l k []) None → Links p l k h n
+    left_out f =
+        let a = from_next in
+        record { begin = heads_left_at k i h n a.begin f; go_on = nexts_left_at k i h n a.begin a.go_on f; buckets = a.buckets; nexts_length = a.nexts_length }
+
+    pub put : (b : ℕ) → Told p (get_or l k []) (Some b) → b < 1024 → k < 1000 → Links p l k (set h b (k + 1)) (set n k (get_or h b 0))
+    put b f w v =
+        let a = from_next in
+        rw (add-one k) (record {
+          begin = heads_put_at k i h n a.begin b f (omega (arith, a.buckets));
+          go_on = nexts_put_at k i h n a.begin a.go_on b f w (omega (arith, a.nexts_length));
           buckets = length-set h b (suc k) ∙ a.buckets;
           nexts_length = length-set n k (get_or h b 0) ∙ a.nexts_length;
         })
 
 pub all_linked : (p : ℕ → Block → Bool) (l : List Block) (h n : List ℕ) (i : ℕ) → i ≤ 0 → Links p l i h n → Links p l 0 h n
 all_linked p l h n i z a = let e : i ≡ 0 = omega arith in rw e at a
+
+-- a block is linked where t holds, in the bucket v
+pub told_where : (p : ℕ → Block → Bool) (x : Block) (t : Bool) (v : ℕ) (r : Option ℕ) {made : ℕ → Type 0} → is_some r ≡ t → IfSome r made → ((b : ℕ) → made b → (b ≡ v) × (b < 1024))
+    → (t ≡ true → Told p x (Some v)) → (t ≡ false → Told p x None) → Told p x r × IfSome r (λ g. g < 1024)
+told_where p x t v None e s f y n = (n (sym e), tt)
+told_where p x t v (Some b) e s f y n = let k = f b s in (rw k.0 (y (sym e)), k.1)
+
+-- a call at a block
+pub call_at : {F T R : Type 0} (g : Shared F (Bor T × Unit {0}) R) (f : F) {x : T} {r : R} (b : Bor T) → b.now ≡ x → g.post f (b, tt) r → FnReturnsAt g f x r
+call_at g f b e p = record { shown = b; shows = e; says = record { met = p } }
 
 -- ---- the links of blocks that look alike, where the test of a bucket is told by what view shows of a block
 
@@ -233,22 +278,22 @@ module _ {W : Type 0} (view : Block → W) (p : ℕ → Block → Bool) (q : ℕ
 -- ---- the two kinds of links
 
 module _ (slot : ℕ) (by : By) (x : Block) where
-  pub own_out : is_series_of slot x ≡ false → (g : ℕ) → own_in slot by g x ≡ false
+  pub own_out : is_series_of slot x ≡ false → Told (own_in slot by) x None
   unfolding own_in ◌and◌
   own_out e g = rw e
 
-  pub own_in_lem : is_series_of slot x ≡ true → {b : ℕ} → b ≡ bucket (hashed by x) → (g : ℕ) → own_in slot by g x ≡ is b g
+  pub own_told : is_series_of slot x ≡ true → Told (own_in slot by) x (Some (bucket (hashed by x)))
   unfolding own_in ◌and◌
-  own_in_lem e q g = rw (e, q)
+  own_told e g = rw e
 
 module _ (x : Block) where
-  pub series_out : is_series x ≡ false → (g : ℕ) → series_in g x ≡ false
+  pub series_out : is_series x ≡ false → Told series_in x None
   unfolding series_in ◌and◌
   series_out e g = rw e
 
-  pub series_in_lem : is_series x ≡ true → {b : ℕ} → b ≡ bucket (pair x) → (g : ℕ) → series_in g x ≡ is b g
+  pub series_told : is_series x ≡ true → Told series_in x (Some (bucket (pair x)))
   unfolding series_in ◌and◌
-  series_in_lem e q g = rw (e, q)
+  series_told e g = rw e
 
 -- what is sought has the bucket of what it is sought by
 alike_hashed : (by : By) (y x : Block) → alike by y x ≡ true → hashed by x ≡ hashed by y

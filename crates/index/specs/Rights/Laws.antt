@@ -1,7 +1,7 @@
 -- A right stands in the bucket of its agreement, which a series on it names.
-use Rattle.std.specs.Prelude.{◌≡◌, true, false, List, ℕ}
+use Rattle.std.specs.Prelude.{◌≡◌, true, false, None, Some, List}
 use Rattle.std.proofs.Common.{sym, ap}
-use Rattle.laws.specs.Tests.{◌and◌, is}
+use Rattle.laws.specs.Tests.{◌and◌}
 use Rattle.laws.specs.Tests.Laws.{is_equal, and_left, and_right, and_both, and_no_left, and_no_right}
 use Rattle.laws.specs.Lists.{place}
 use Rattle.laws.specs.Lists.Same.{same_yes}
@@ -10,7 +10,7 @@ use Rattle.laws.specs.Lists.Search.{has_no_place, all_has_no}
 use Rattle.paper.specs.Layout.{Bytes, Block, agreement}
 use Rattle.paper.specs.Book.{is_right, with_capacity, is_right_of}
 use Rattle.paper.specs.Rules.{names}
-use Rattle.index.specs.Linked.{bucket}
+use Rattle.index.specs.Linked.{bucket, Told}
 use Rattle.index.specs.Rights.{right_in, is_right_for}
 
 module _ (e : Bytes) (x : Block) where
@@ -18,13 +18,13 @@ module _ (e : Bytes) (x : Block) where
   unfolding is_right_of
   not_right q = and_no_left _ _ q
 
-  pub right_out : is_right_of e x ≡ false → (g : ℕ) → right_in e g x ≡ false
+  pub right_out : is_right_of e x ≡ false → Told (right_in e) x None
   unfolding right_in ◌and◌
   right_out q g = rw q
 
-  pub right_in_lem : is_right_of e x ≡ true → {b : ℕ} → b ≡ bucket (agreement x) → (g : ℕ) → right_in e g x ≡ is b g
+  pub right_told : is_right_of e x ≡ true → Told (right_in e) x (Some (bucket (agreement x)))
   unfolding right_in ◌and◌
-  right_in_lem q k g = rw (q, k)
+  right_told q g = rw q
 
 names_agreement : (y r : Block) → names y r ≡ true → agreement y ≡ agreement r
 unfolding names

@@ -1,7 +1,7 @@
 -- Rules 18 and 19 by places: the right found is the one that the paper names, and of the series of a message those with its place are those on it.
-use Rattle.std.specs.Prelude.{◌≡◌, ◌+◌, ◌≤◌, ◌<◌}
+use Rattle.std.specs.Prelude.{◌≡◌, ◌+◌, ◌≤◌, ◌<◌, Ok}
 use Rattle.laws.specs.Kit.{refl, sym, ap, ap₂, ◌∙◌, Bool, true, false, cond, option_get_or, List, [], ℕ, zero, suc, arith, add-one, length, take, get_or, ◌and◌, neg, is, less, split, clash, and_left, and_right, and_both, and_no_left, neg_true, is_yes, is_no, is_equal, is_other, is_same}
-use Rattle.laws.specs.Lists.{place, has, keep, total}
+use Rattle.laws.specs.Lists.{place, total}
 use Rattle.laws.specs.Lists.Same.{same_yes}
 use Rattle.laws.specs.Lists.Each.{all_each}
 use Rattle.laws.specs.Lists.Search.{has_agree, has_keep_and, find_agree, find_keep_and, place_is_0, place_is_not_0, place_agree}
@@ -10,13 +10,13 @@ use Rattle.laws.specs.Order.Laws.{first_stop, along_agree}
 use Rattle.paper.specs.declared.Verdict.{Verdict}
 use Rattle.paper.specs.Layout.{Bytes, Block, in_area, out_area, contract_type, agreement, quantity, limit}
 use Rattle.paper.specs.Book.{with_capacity, numbered, is_right_of, own_rights}
-use Rattle.paper.specs.Rules.{fine, number_of, verdict_of, ◌then◌, broken, over_positions, names, rule18, right_for, sum_on, rule19, limit_verdict, right_verdict}
+use Rattle.paper.specs.Rules.{fine, number_of, ◌then◌, broken, over_positions, names, rule18, right_for, sum_on, rule19, limit_verdict, right_verdict}
 use Rattle.facts.specs.Book.{numbered_found, numbered_place}
 use Rattle.index.specs.Rights.{is_right_for, FoundRights}
 use Rattle.rules.specs.ByPlaces.{rule18_by, rule19_by}
 use Rattle.judge.specs.Sums.{sum_to, SumsTo}
-use Rattle.judge.specs.Order.{limit_by, right_by}
-use Rattle.judge.proofs.Laws.Order.{then_hit, then_pass, along_fine}
+use Rattle.judge.specs.Order.{Gives, limit_by, right_by}
+use Rattle.judge.proofs.Laws.Order.{gives_fine, gives_pass, along_fine}
 
 -- ---- the verdict by the code's branches
 
@@ -28,30 +28,11 @@ none_refused : (a : ℕ → Verdict) → ((k : ℕ) → a k ≡ fine) → over_p
 unfolding over_positions
 none_refused a g = along_agree number_of fine a (λ p. fine) 100 0 (λ p low high. g p) ∙ along_fine 100 0
 
-module _ (n : ℕ) (us : List Block) (right : ℕ) (sums : List ℕ) (s : ℕ) (y : Block) where
-  pub right_none : {v : Verdict} → v ≡ fine → with_capacity y ≡ false → v ≡ right_by n us right sums s y
-  unfolding right_by rule18_by limit_by rule19_by broken
-  right_none e t =
-      then_pass {v = fine} (rw (and_no_left (with_capacity y) (is right 0) t)) refl
-      (e ∙ sym (none_refused _ (λ k. rw (and_no_left _ (less (limit (numbered us right) k) (get_or sums k 0)) (and_no_left (with_capacity y) (less k n) t)))))
-
-  pub right_refused : {v : Verdict} → v ≡ verdict_of 18 s 0 0 → rule18_by y right ≡ true → v ≡ right_by n us right sums s y
-  unfolding right_by broken
-  right_refused e t = rw t (then_hit _ e (λ z. let q : 18 ≡ 0 = sym (ap number_of e) ∙ z in omega arith))
-
-  pub right_limits : {v : Verdict} → rule18_by y right ≡ false → v ≡ over_positions (limit_by n (numbered us right) sums s y) → v ≡ right_by n us right sums s y
-  unfolding right_by broken
-  right_limits t e = rw t (then_pass {v = fine} refl refl e)
-
--- a position that passes, and one that does not
-module _ (n : ℕ) (r : Block) (sums : List ℕ) (s : ℕ) (y : Block) (k : ℕ) {t : Bool} (e : t ≡ rule19_by n r (get_or sums k 0) y k) where
-  pub limit_kept : t ≡ false → fine ≡ limit_by n r sums s y k
-  unfolding limit_by broken
-  limit_kept q = rw (sym e ∙ q)
-
-  pub limit_broken : t ≡ true → {v : Verdict} → v ≡ verdict_of 19 s (k + 1) 0 → v ≡ limit_by n r sums s y k
-  unfolding limit_by broken
-  limit_broken q f = rw (sym e ∙ q) f
+pub right_none : (n : ℕ) (us : List Block) (right : ℕ) (sums : List ℕ) (s : ℕ) (y : Block) {o : Unit {0}} → with_capacity y ≡ false → Gives (Ok o) (right_by n us right sums s y)
+unfolding right_by rule18_by limit_by rule19_by broken
+right_none n us right sums s y t =
+    gives_pass (gives_fine {u = tt {0}} (rw (and_no_left (with_capacity y) (is right 0) t)))
+    (gives_fine (none_refused _ (λ k. rw (and_no_left _ (less (limit (numbered us right) k) (get_or sums k 0)) (and_no_left (with_capacity y) (less k n) t)))))
 
 -- ---- which series are on one right
 

@@ -1,6 +1,6 @@
 -- Rules 7 to 15, 18 and 19, series by series: those passed by are what is seen of the message, and none of them is refused.
-use Rattle.std.specs.Prelude.{◌≡◌, ◌+◌, ◌/◌, ◌≤◌, ◌<◌}
-use Rattle.laws.specs.Kit.{refl, sym, ap, ◌∙◌, Bool, List, [], ℕ, arith, length, take, drop, get_or, Step, End, step_cut_at, step_take, end_cut}
+use Rattle.std.specs.Prelude.{◌≡◌, ◌+◌, ◌/◌, ◌≤◌, ◌<◌, Result, Ok, Err}
+use Rattle.laws.specs.Kit.{refl, sym, ap, ◌∙◌, Bool, List, [], ℕ, length, take, drop, get_or, Step, End, step_cut_at, step_take, end_cut}
 use Rattle.laws.specs.Lists.{keep}
 use Rattle.laws.specs.Cut.{cut}
 use Rattle.laws.specs.Cut.Laws.{cut_length}
@@ -12,9 +12,9 @@ use Rattle.paper.specs.Rules.{fine, ◌then◌, form_verdict, values_verdict, se
 use Rattle.rules.specs.ByPlaces.{known_otherwise}
 use Rattle.judge.specs.declared.series.Searched.{Searched}
 use Rattle.judge.specs.Looked.{Taken, Looked, LookedIn}
-use Rattle.judge.specs.Order.{form_by, values_by, series_by}
+use Rattle.judge.specs.Order.{Gives, form_by, values_by, series_by}
 use Rattle.judge.specs.Sums.{SumsTo}
-use Rattle.judge.proofs.Laws.Order.{then_hit, then_pass}
+use Rattle.judge.proofs.Laws.Order.{then_pass, gives_fine, gives_hit}
 use Rattle.judge.proofs.Laws.Rule7.{rule_7_found}
 use Rattle.judge.proofs.Laws.Places.{stored_block}
 use Rattle.judge.proofs.Laws.Rights.{rights_found}
@@ -37,15 +37,17 @@ series_found us e series found places k a i n d h sums q s =
     )
 
 pub series_at_lem : (us : List Block) (m series : Bytes) (h : Block) (found : Searched) (places : List ℕ) → cut 512 series ≡ series_of m → h ≡ head_of m → Taken us (series_of m) → LookedIn us m found places
-    → (i : ℕ) → i < length series / 512 → (d : Block) {t : Bool} (sums : List ℕ) {y : Block} {v : Verdict}
+    → (i : ℕ) → i < length series / 512 → (d : Block) {t : Bool} (sums : List ℕ) {y : Block} {r : Result (Unit {0}) Verdict}
     → t ≡ known_otherwise (i + 1) (get_or found.first_ids i 0) (get_or found.first_keys i 0) (get_or found.stored_ids i 0) (get_or places i 0)
     → ((get_or found.rights i 0 ≡ 0 → ⊥) → SumsTo found.rights (cut 512 series) (get_or found.rights i 0) (i + 1) sums)
-    → y ≡ get_or (cut 512 series) i [] → v ≡ series_by d h us (record { number = i + 1; otherwise = t; place = get_or places i 0; right = get_or found.rights i 0 }) sums y
-    → v ≡ series_verdict d (keep (is_series_of found.slot) us) (own_rights us (sender h)) h (take i (cut 512 series)) (i + 1) (get_or (cut 512 series) i [])
-series_at_lem us m series h found places e g k a i n d {t} sums {y} {v} p s r f =
+    → y ≡ get_or (cut 512 series) i [] → Gives r (series_by d h us (record { number = i + 1; otherwise = t; place = get_or places i 0; right = get_or found.rights i 0 }) sums y)
+    → Gives r (series_verdict d (keep (is_series_of found.slot) us) (own_rights us (sender h)) h (take i (cut 512 series)) (i + 1) (get_or (cut 512 series) i []))
+series_at_lem us m series h found places e g k a i n d {t} sums {y} {r} p s q f =
     let j : i < length (cut 512 series) = rw (cut_length 512 series) n in
-    f ∙ ap (series_by d h us (record { number = i + 1; otherwise = t; place = get_or places i 0; right = get_or found.rights i 0 }) sums) r
-    ∙ series_found us (sender h) (cut 512 series) found places (rw e k) (rw (e, g) a) i j d h sums p s
+    let b : series_by d h us (record { number = i + 1; otherwise = t; place = get_or places i 0; right = get_or found.rights i 0 }) sums y ≡ _ =
+    ap (series_by d h us (record { number = i + 1; otherwise = t; place = get_or places i 0; right = get_or found.rights i 0 }) sums) q
+    ∙ series_found us (sender h) (cut 512 series) found places (rw e k) (rw (e, g) a) i j d h sums p s in
+    rw b at f
 
 -- ---- in turn
 
@@ -59,15 +61,15 @@ module _ (d : Block) (own rights : List Block) (h : Block) (b : Bytes) where
       ∙ ap (λ v. series_verdict d own rights h (take i (cut 512 b)) (i + 1) (get_or (cut 512 b) i []) then each_series d own rights h v (i + 1 + 1) (drop (i + 1) (cut 512 b)))
       (sym (step_take (cut 512 b) i _ s))
 
-  pub each_go : {w : Verdict} (v : Verdict) (i : ℕ) → w ≡ each_series d own rights h (take i (cut 512 b)) (i + 1) (drop i (cut 512 b)) → i < length b / 512
-      → v ≡ series_verdict d own rights h (take i (cut 512 b)) (i + 1) (get_or (cut 512 b) i []) → v.number ≡ 0
-      → w ≡ each_series d own rights h (take (i + 1) (cut 512 b)) (i + 1 + 1) (drop (i + 1) (cut 512 b))
-  each_go v i e k q z = each i e k ∙ sym (then_pass q z refl)
+  module _ {w : Verdict} (i : ℕ) (e : w ≡ each_series d own rights h (take i (cut 512 b)) (i + 1) (drop i (cut 512 b))) where
+    pub each_go : {u : Unit {0}} → i < length b / 512 → Gives (Ok u) (series_verdict d own rights h (take i (cut 512 b)) (i + 1) (get_or (cut 512 b) i []))
+        → w ≡ each_series d own rights h (take (i + 1) (cut 512 b)) (i + 1 + 1) (drop (i + 1) (cut 512 b))
+    each_go k g = each i e k ∙ sym (then_pass {v = fine} g.verdict refl refl)
 
-  pub each_hit : {w : Verdict} (v : Verdict) (i : ℕ) → w ≡ each_series d own rights h (take i (cut 512 b)) (i + 1) (drop i (cut 512 b)) → i < length b / 512
-      → v ≡ series_verdict d own rights h (take i (cut 512 b)) (i + 1) (get_or (cut 512 b) i []) → (v.number ≡ 0 → ⊥) → v ≡ w
-  each_hit v i e k q z = then_hit _ q z ∙ sym (each i e k)
+    pub each_hit : {r : Result (Unit {0}) Verdict} {v : Verdict} → i < length b / 512 → Gives {T = Unit {0}} (Err v) (series_verdict d own rights h (take i (cut 512 b)) (i + 1) (get_or (cut 512 b) i []))
+        → r ≡ Err v → Gives r w
+    each_hit k g q = rw (each i e k) (gives_hit _ g q)
 
-  pub each_end : {w : Verdict} (i : ℕ) → w ≡ each_series d own rights h (take i (cut 512 b)) (i + 1) (drop i (cut 512 b)) → length b / 512 ≤ i → fine ≡ w
-  unfolding each_series
-  each_end i e k = let s : End (cut 512 b) i = end_cut 512 b i k in sym (e ∙ ap (each_series d own rights h (take i (cut 512 b)) (i + 1)) s.rest)
+    pub each_end : {u : Unit {0}} → length b / 512 ≤ i → Gives (Ok u) w
+    unfolding each_series
+    each_end k = let s : End (cut 512 b) i = end_cut 512 b i k in gives_fine (e ∙ ap (each_series d own rights h (take i (cut 512 b)) (i + 1)) s.rest)

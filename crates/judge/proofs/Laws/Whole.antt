@@ -1,6 +1,6 @@
 -- The verdict on a book and a message, by the parts that the code takes of them.
-use Rattle.std.specs.Prelude.{◌≡◌, ◌-◌, ◌/◌, ◌<◌}
-use Rattle.laws.specs.Kit.{refl, sym, ap, ap₂, ◌∙◌, Bool, true, false, List, ℕ, suc, arith, length, neg_no, neg_true, neg_false}
+use Rattle.std.specs.Prelude.{◌≡◌, ◌-◌, ◌/◌, Result, Ok, Err}
+use Rattle.laws.specs.Kit.{refl, sym, ap, ap₂, ◌∙◌, Bool, true, false, not, List, ℕ, length, neg, neg_no, neg_false}
 use Rattle.laws.specs.Lists.Keep.{count_until}
 use Rattle.laws.specs.Cut.{cut}
 use Rattle.laws.specs.Cut.Laws.{cut_length}
@@ -9,14 +9,16 @@ use Rattle.paper.specs.Layout.{Bytes, Block, sender}
 use Rattle.paper.specs.Book.{day_block, slots, is_free, used, free_slots, slot_of}
 use Rattle.paper.specs.Sound.{sound}
 use Rattle.paper.specs.Message.{head_of, series_of, rule2}
-use Rattle.paper.specs.Rules.{number_of, ◌then◌, broken, rule1, verdict}
+use Rattle.paper.specs.Rules.{broken, rule1, verdict}
 use Rattle.facts.specs.Book.{slots_length}
 use Rattle.facts.specs.Sound.{sound_says, used_few}
 use Rattle.facts.specs.Verdict.{message_says, series_some_few}
-use Rattle.judge.specs.declared.Judged.{Judged}
-use Rattle.judge.specs.Order.{judged_by}
-use Rattle.judge.specs.Looked.{Taken, JudgedFrom, JudgedBook}
-use Rattle.judge.proofs.Laws.Order.{then_hit, then_pass}
+use Rattle.index.specs.declared.By.TheVariants.{Key}
+use Rattle.index.specs.Linked.{Found}
+use Rattle.index.specs.Handed.{Handed}
+use Rattle.judge.specs.Order.{Gives, judged_by}
+use Rattle.judge.specs.Looked.{Taken}
+use Rattle.judge.proofs.Laws.Order.{gives_fine, gives_hit, gives_pass, gives_by, kept_by}
 
 -- ---- the used slots us of a sound book; the others are free
 
@@ -27,29 +29,28 @@ pub free_count : (b us : Bytes) → cut 512 us ≡ used b → sound b ≡ true �
 unfolding free_slots used
 free_count b us e h = ap₂ (λ m n. m - n) (sym (slots_length b)) (used_length b us e) ∙ sym (count_until is_free (slots b) (sound_says b h).free)
 
--- ---- a rule of the whole call: broken, or kept and what follows
+-- ---- the rules of the whole call, and what follows
 
-refused : (t : Bool) (n : ℕ) {v : Verdict} (w : Verdict) → 0 < n → t ≡ true → v ≡ broken true n 0 0 → v ≡ (broken t n 0 0 then w)
-unfolding broken
-refused t n w h q e = then_hit w (e ∙ ap (λ u. broken u n 0 0) (sym q)) (λ z. let y : n ≡ 0 = sym (ap number_of e) ∙ z in omega arith)
+module _ (b m : Bytes) {T : Type 0} {r : Result T Verdict} where
+  pub unsound : {u : Bool} {w : Verdict} → u ≡ sound b → ((◌≡◌ {A = ℕ} 1 0 → ⊥) → Gives {T = Unit {0}} (Err w) (broken (not u) 1 0 0)) → r ≡ Err w → Gives r (verdict b m)
+  unfolding verdict rule1 neg
+  unsound q g e = gives_hit _ (gives_by 0 0 0 g (ap not q)) e
 
-kept : (t : Bool) (n : ℕ) {v w : Verdict} → t ≡ false → v ≡ w → v ≡ (broken t n 0 0 then w)
-unfolding broken
-kept t n q e = then_pass {v = broken t n 0 0} refl (rw q) e
+  pub malformed : {u : Bool} {w : Verdict} → sound b ≡ true → u ≡ rule2 m → ((◌≡◌ {A = ℕ} 2 0 → ⊥) → Gives {T = Unit {0}} (Err w) (broken u 2 0 0)) → r ≡ Err w → Gives r (verdict b m)
+  unfolding verdict rule1 broken
+  malformed q p g e = gives_pass (gives_fine {u = tt {0}} (rw (neg_false _ q))) (gives_hit _ (gives_by 1 0 0 g p) e)
 
-module _ (b m : Bytes) where
-  pub unsound : {v : Verdict} → sound b ≡ false → v ≡ broken true 1 0 0 → v ≡ verdict b m
-  unfolding verdict rule1
-  unsound q e = refused _ 1 _ (omega arith) (neg_true _ q) e
+  pub judged_by_lem : {d : Block} {us : List Block} {free : ℕ} → sound b ≡ true → rule2 m ≡ false
+      → d ≡ day_block b → us ≡ used b → free ≡ free_slots b → Gives r (judged_by d us free m) → Gives r (verdict b m)
+  unfolding verdict rule1 judged_by broken
+  judged_by_lem q p a c f g = gives_pass (gives_fine {u = tt {0}} (rw (neg_false _ q))) (gives_pass (gives_fine {u = tt {0}} (rw p)) (rw (a, c, f) at g))
 
-  pub malformed : {v : Verdict} → sound b ≡ true → rule2 m ≡ true → v ≡ broken true 2 0 0 → v ≡ verdict b m
-  unfolding verdict rule1
-  malformed q p e = kept _ 1 (neg_false _ q) (refused _ 2 _ (omega arith) p e)
-
-  pub judged_by_lem : {d : Block} {us : List Block} {free : ℕ} {v : Verdict} → sound b ≡ true → rule2 m ≡ false
-      → d ≡ day_block b → us ≡ used b → free ≡ free_slots b → v ≡ judged_by d us free m → v ≡ verdict b m
-  unfolding verdict rule1 judged_by
-  judged_by_lem q p a c f e = kept _ 1 (neg_false _ q) (kept _ 2 p (e ∙ rw (a, c, f)))
+pub kept_sound : (b : Bytes) {u : Bool} {o : Unit {0}} → u ≡ sound b → ((◌≡◌ {A = ℕ} 1 0 → ⊥) → Gives (Ok o) (broken (not u) 1 0 0)) → sound b ≡ true
+kept_sound b q g = sym q ∙ not_no _ (kept_by 0 0 0 g)
+  where
+    not_no : (u : Bool) → not u ≡ false → u ≡ true
+    not_no true e = refl
+    not_no false e = sym e
 
 -- ---- what the rules on series stand on
 
@@ -60,16 +61,9 @@ taken b m q p e =
     let w = message_says m (neg_no _ p) in
     record { few = rw e (used_few b s); short = (series_some_few m w).1; apart = rw e s.series; kinds = w.series_slots }
 
--- ---- the whole answer
+-- ---- what is handed on
 
-pub refused_book : {r : Judged} {b m : Bytes} {places numbers : List ℕ} (n : ℕ) → r.verdict ≡ broken true (suc n) 0 0 → r.verdict ≡ verdict b m → JudgedBook r b m places numbers
-unfolding broken
-refused_book n e q = record { verdict = q; handed = λ z. absurd (let y : suc n ≡ 0 = sym (ap number_of e) ∙ z in omega arith) }
-
-pub judged_book : (b m us : Bytes) {v : Verdict} {d : Block} {slot free : ℕ} {places numbers : List ℕ} → cut 512 us ≡ used b → slot ≡ slot_of (cut 512 us) (sender (head_of m))
-    → JudgedFrom v d (cut 512 us) slot free m places numbers → v ≡ verdict b m → JudgedBook (record { verdict = v; used = length us / 512; slot = slot }) b m places numbers
-judged_book b m us e k a q = record {
-  verdict = q;
-  handed = λ z.
-      record { used_count_is = used_length b us e; senders_slot_is = k ∙ ap (λ u. slot_of u (sender (head_of m))) e; stored = rw e at (a.found z).0; sent = rw e at (a.found z).1 };
-}
+pub handed_on : (b m us : Bytes) {slot : ℕ} {places numbers : List ℕ} → cut 512 us ≡ used b → slot ≡ slot_of (cut 512 us) (sender (head_of m))
+    → Found slot Key (cut 512 us) (series_of m) places → Found 0 Key (series_of m) (cut 512 us) numbers → Handed (used b) (head_of m) (series_of m) (length us / 512) slot places numbers
+handed_on b m us e k s t =
+    record { used_count_is = used_length b us e; senders_slot_is = k ∙ ap (λ u. slot_of u (sender (head_of m))) e; stored = rw e at s; sent = rw e at t }

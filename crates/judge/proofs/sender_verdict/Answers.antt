@@ -6,7 +6,7 @@ use Rattle.judge.proofs.sender_verdict.Goals as goal
 
 pub returns-then-rule_4 : goal.returns-then-rule_4
 returns-then-rule_4 c =
-    character_named 4 0 c.rule_4.ensures c.if-rule_4.true c.verdict_of.ensures (c.eic_number.ensures ∙ ap eic_number c.sender.ensures)
+    character_named 3 0 c.rule_4.ensures c.if-rule_4.true c.verdict_of.ensures (c.eic_number.ensures ∙ ap eic_number c.sender.ensures)
 
 pub returns : goal.returns
-returns c = character_none 4 0 _ c.rule_4.ensures c.if-rule_4.false c.fine.ensures
+returns c = character_none 4 0 _ c.rule_4.ensures c.if-rule_4.false

@@ -1,5 +1,9 @@
 -- The verdict is that of the judgement.
+use Rattle.laws.specs.Kit.{◌∙◌}
 use Rattle.judge.proofs.verdict.Goals as goal
 
-pub returns : goal.returns
-returns c = c.judge_book.ensures.verdict
+pub returns-in-Ok : goal.returns-in-Ok
+returns-in-Ok c = c.fine.ensures ∙ c.in-Ok.ensures.verdict.verdict
+
+pub returns-in-Err : goal.returns-in-Err
+returns-in-Err c = c.in-Err.ensures.verdict.verdict

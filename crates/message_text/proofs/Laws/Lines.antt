@@ -1,6 +1,8 @@
 -- A block lent and back, a series begun, the lines of a text one after the other, and what is laid copied into the buffer.
-use Rattle.std.specs.Prelude.{◌≡◌, ◌∷◌, ◌++◌, ◌+◌, ◌-◌, ◌*◌, ◌≤◌, ◌<◌}
-use Rattle.laws.specs.Kit.{refl, sym, ap, ◌∙◌, Bool, true, false, List, [], ℕ, min, add-sub_cancel_left, zero-add, arith, length, take, drop, replicate, drop-drop, length-take-le, length-append, take_at, ◌and◌, is, less, upto, and_right, less_false, upto_yes}
+use Rattle.std.specs.Result.{IsErr, IsErrAnd}
+use Rattle.laws.specs.Base.{false≢true}
+use Rattle.std.specs.Prelude.{None, Some, Result, Ok, Err, ◌≡◌, ◌∷◌, ◌++◌, ◌+◌, ◌-◌, ◌*◌, ◌≤◌, ◌<◌}
+use Rattle.laws.specs.Kit.{refl, sym, ap, ◌∙◌, Bool, true, false, List, [], ℕ, min, add-sub_cancel_left, zero-add, arith, length, take, drop, replicate, drop-drop, length-take-le, length-append, take_at, ◌and◌, is, upto, and_right, less_false, upto_yes}
 use lib.ListN.{length-replicate}
 use lib.Seq.{take-append-le}
 use Rattle.laws.specs.Bytes.{part, written}
@@ -8,11 +10,11 @@ use Rattle.laws.specs.Bytes.Laws.{written_take_drop, zeros_split}
 use Rattle.laws.specs.Slices.{part_slice}
 use Rattle.paper.specs.Check.{sealed}
 use Rattle.paper.specs.Layout.{Bytes, Block, kind, n_of, version}
-use Rattle.message_text.specs.declared.Laid.{Laid}
+use Rattle.message_text.specs.declared.WrongLine.{WrongLine}
 use Rattle.message_text.specs.declared.TextRead.{TextRead}
 use Rattle.layout.specs.Written.{with_series_count}
 use Rattle.message_words.specs.Words.{before, behind, lines}
-use Rattle.message_text.specs.MessageText.{Gives, in_block, laid, field_laid, new_block, counted, series_laid, with_block, begun, with_line, wrong_at, with_lines, text_laid, zeros_for, copied}
+use Rattle.message_text.specs.MessageText.{Gives, Lays, Reads, Tells, Laid, in_block, laid, field_laid, new_block, counted, series_laid, with_block, begun, with_line, wrong_at, with_lines, text_laid, zeros_for, copied}
 use Rattle.message_words.specs.Words.Laws.{lines_none, lines_more}
 
 -- ---- a block lent and back
@@ -33,6 +35,15 @@ unfolding field_laid
 field_back series w v b {fine} {y} f =
     let g = rw (part_slice (512 * series) (512 * series + 512) 512 b refl) at f in
     (ap (λ t. laid t series) g.0, block_back (512 * series) b y ∙ ap (λ z. with_block (512 * series) z b) g.1)
+
+-- ---- what became of a line, as it is answered
+
+module _ {p : Laid × Bytes} {fine : Bool} {series : ℕ} {x : Bytes} (g : Gives p (laid fine series) x) where
+  pub lays_wrong : fine ≡ false → Lays p None x
+  lays_wrong e = (ap (λ z. z.fine) (sym g.0) ∙ e, g.1)
+
+  pub lays_right : fine ≡ true → 512 * (series + 1) ≤ length x → Lays p (Some series) x
+  lays_right e h = ((sym g.0 ∙ ap (λ t. laid t series) e, h), g.1)
 
 -- ---- a series begun
 
@@ -64,17 +75,17 @@ module _ (k : ℕ) (m : Laid × Bytes) where
 
 -- t is what is left of the text, b the blocks so far, r what all lines give
 module _ (k series : ℕ) (t b : Bytes) {r : TextRead × Bytes} (e : with_lines k (laid true series, b) (lines t) ≡ r) where
-  -- the next line gives x and c
-  module _ {l : Bytes} {x : Laid} {c : Bytes} (h : 0 < length t) (f : l ≡ before 10 t) (q : Gives (with_line series l b) x c) where
-    next : with_lines (k + 1) (x, c) (lines (behind 10 t)) ≡ r
-    unfolding with_lines
-    next = rw (q.0, q.1, f) (rw (lines_more t h) at e)
+  next : (l c : Bytes) → 0 < length t → l ≡ before 10 t → c ≡ (with_line series l b).1 → with_lines (k + 1) ((with_line series l b).0, c) (lines (behind 10 t)) ≡ r
+  unfolding with_lines
+  next l c h f q = rw (q, f) (rw (lines_more t h) at e)
 
-    pub lines_on : {u : Bytes} → x.fine ≡ true → u ≡ behind 10 t → with_lines (k + 1) (laid true x.series, c) (lines u) ≡ r
-    lines_on {u} fine g = rw (g, ← fine) next
+  -- the next line gives so many series, or is wrong
+  pub lines_on : {l u c : Bytes} {s : ℕ} → 0 < length t → l ≡ before 10 t → Lays (with_line series l b) (Some s) c → u ≡ behind 10 t → with_lines (k + 1) (laid true s, c) (lines u) ≡ r
+  lines_on {l} {u} {c} h f q g = rw g (rw q.0.0 at (next l c h f q.1))
 
-    pub lines_stop : x.fine ≡ false → Gives r (wrong_at (k + 1)) c
-    lines_stop wrong = let p = sym (lines_wrong (k + 1) (x, c) (lines (behind 10 t)) wrong) ∙ next in (ap (λ a. a.0) p, ap (λ a. a.1) p)
+  pub lines_stop : {l c : Bytes} → 0 < length t → l ≡ before 10 t → Lays (with_line series l b) None c → Gives r (wrong_at (k + 1)) c
+  lines_stop {l} {c} h f q =
+      let p = sym (lines_wrong (k + 1) ((with_line series l b).0, c) (lines (behind 10 t)) q.0) ∙ next l c h f q.1 in (ap (λ a. a.0) p, ap (λ a. a.1) p)
 
   pub lines_end : length t ≤ 0 → Gives r (record { line = 0; length = 512 * (series + 1) }) b
   unfolding with_lines
@@ -82,10 +93,10 @@ module _ (k series : ℕ) (t b : Bytes) {r : TextRead × Bytes} (e : with_lines 
 
 -- ---- the whole text: y is the first block as it is begun
 
-pub text_laid_lem : (kind business : ℕ) (t z : Bytes) → 512 ≤ length z → {y x : Bytes} {r : TextRead} → y ≡ new_block kind business 0 0 [] (take 512 z)
-    → Gives (with_lines 0 (laid true 0, y ++ drop 512 z) (lines t)) r x → Gives (text_laid kind business t z) r x
+pub text_laid_lem : (kind business : ℕ) (t z : Bytes) → 512 ≤ length z → {y : Bytes} → y ≡ new_block kind business 0 0 [] (take 512 z) → (r : Result ℕ WrongLine) (x : Bytes)
+    → Reads (with_lines 0 (laid true 0, y ++ drop 512 z) (lines t)) r x → Reads (text_laid kind business t z) r x
 unfolding text_laid
-text_laid_lem kind business t z h {y} e g = rw (less_false _ _ h, ← e, ← front_back z y) g
+text_laid_lem kind business t z h {y} e r x g = rw (less_false _ _ h, ← e, ← front_back z y) g
 
 -- ---- what is laid, copied
 
@@ -128,3 +139,17 @@ copied_back a business n t b y zeros {r} {x} v f l k g w =
 pub copied_of : (m a business : ℕ) (t b zeros : Bytes) {r : TextRead} {x : Bytes} → length zeros ≡ m
     → Gives (copied b (text_laid a business t (zeros_for (length zeros) b))) r x → Gives (copied b (text_laid a business t (zeros_for m b))) r x
 copied_of m a business t b zeros e g = rw e at g
+
+-- ---- the answer, as it is told
+
+pub reads_told : (p : TextRead × Bytes) (r : Result ℕ WrongLine) (x : Bytes) (t : TextRead) → Reads p r x → Tells r t → Gives p t x × (t.length ≤ length x)
+reads_told p (Ok n) x t g e = ((e ∙ sym g.0.0, g.1), rw (ap (λ (a : TextRead). a.length) e) g.0.1)
+reads_told p (Err l) x t g e = ((e ∙ sym g.0, g.1), rw (ap (λ (a : TextRead). a.length) e) (omega arith))
+
+pub wrong_line : (l : WrongLine) (k : ℕ) → ◌≡◌ {A = Result ℕ WrongLine} (Err l) (Err (record { 0 = k })) → l.0 ≡ k
+wrong_line l k e = let q : l ≡ record { 0 = k } = cc in ap (λ (y : WrongLine). y.0) q
+
+-- a wrong line that is handed on
+pub reads_wrong : (p : TextRead × Bytes) (r : Result ℕ WrongLine) (x : Bytes) (e : WrongLine) → IsErr r → IsErrAnd r (λ y. y ≡ e) → p.0 ≡ wrong_at e.0 → x ≡ p.1 → Reads p r x
+reads_wrong p (Ok n) x e i a q g = absurd (false≢true i)
+reads_wrong p (Err l) x e i a q g = (q ∙ ap (λ (y : WrongLine). wrong_at y.0) (sym a), g)

@@ -7,7 +7,7 @@ use Rattle.message_text.proofs.lay_text.Goals as goal
 
 pub returns-then-room-lt512 : goal.returns-then-room-lt512
 unfolding text_laid
-returns-then-room-lt512 c = let e = less_true _ _ c.if-room-lt512.true in ((rw e, rw e), omega arith)
+returns-then-room-lt512 c = let e = less_true _ _ c.if-room-lt512.true in (rw e, rw e)
 
 pub write_block-requires : goal.write_block-requires
 write_block-requires c =
@@ -16,8 +16,7 @@ write_block-requires c =
     length-take-le 512 b h
 
 pub returns : goal.returns
-returns c =
-    (text_laid_lem _ _ _ c.args.room.now c.if-room-lt512.false c.write_block.ensures c.lay_lines.ensures.0, omega (arith, c.lay_lines.ensures.1))
+returns c = text_laid_lem _ _ _ c.args.room.now c.if-room-lt512.false c.write_block.ensures _ _ c.lay_lines.ensures
 
 pub slice_bounds-write_block-end-2 : goal.slice_bounds-write_block-end-2
 slice_bounds-write_block-end-2 c =

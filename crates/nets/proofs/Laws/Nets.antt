@@ -11,9 +11,8 @@ use Rattle.laws.specs.Bytes.Laws.{number_small}
 use Rattle.laws.specs.Cut.{cut}
 use Rattle.laws.specs.Cut.Laws.{cut_length, cut_all}
 use Rattle.paper.specs.Layout.{Bytes, Block, quantity}
-use Rattle.paper.specs.Book.{is_series_of}
 use Rattle.paper.specs.Nets.{goes_out, bought, sold, net_of}
-use Rattle.nets.specs.Sums.{bought_share, sold_share, share, own_share, shares}
+use Rattle.nets.specs.Sums.{bought_share, sold_share, share, share_if, shares}
 
 -- ---- few blocks of bytes
 
@@ -70,7 +69,7 @@ pub net_shares : (o e : Bytes) (l : List Block) (k : ℕ) → Few l → net_of o
 unfolding net_of
 net_shares o e l k f = by_offset (shares (share o e) l k) (sold o e l k) (bought o e l k) (sold_small o e l k f) (balance o e k l f.bytes)
 
--- the series of one sender among the used slots
-pub shares_own : (o e : Bytes) (slot : ℕ) (l : List Block) (k : ℕ) → shares (share o e) (keep (is_series_of slot) l) k ≡ shares (own_share o e slot) l k
-unfolding shares own_share
-shares_own o e slot l k = total_keep (λ x. share o e x k) (is_series_of slot) l
+-- of the blocks that pass
+pub shares_kept : (p : Block → Bool) (o e : Bytes) (l : List Block) (k : ℕ) → shares (share o e) (keep p l) k ≡ shares (share_if p o e) l k
+unfolding shares share_if
+shares_kept p o e l k = total_keep (λ x. share o e x k) p l

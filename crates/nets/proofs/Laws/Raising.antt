@@ -1,12 +1,11 @@
 -- Sums are raised one after another, and by one block after another: remainders add up.
-use Rattle.std.specs.Prelude.{◌≡◌, ◌+◌, ◌-◌, ◌/◌, ◌≤◌, ◌<◌, ◌%◌}
-use Rattle.laws.specs.Kit.{refl, sym, ap, ◌∙◌, List, [], ℕ, arith, length, take, drop, get_or, add-zero, set, get_or-set_same, get_or-set_other, drop-set-lt, drop-drop, get_or-drop, take_all}
+use Rattle.std.specs.Prelude.{◌≡◌, ◌∷◌, ◌+◌, ◌-◌, ◌<◌, ◌%◌}
+use Rattle.laws.specs.Kit.{refl, sym, ap, ◌∙◌, List, [], ℕ, arith, length, take, drop, get_or, add-zero, set, get_or-set_same, get_or-set_other, drop-set-lt, drop-drop, get_or-drop}
 use native.Mathlib.Decide.{ℕ_discrete}
 use Rattle.laws.specs.Lists.{total}
-use Rattle.laws.specs.Lists.Count.{total_more}
-use Rattle.laws.specs.Cut.{cut}
-use Rattle.laws.specs.Cut.Laws.{cut_length}
-use Rattle.paper.specs.Layout.{Bytes, Block}
+use Rattle.laws.specs.Lists.Count.{total_append}
+use Rattle.laws.specs.Loops.{Step, End, step_take, end_whole}
+use Rattle.paper.specs.Layout.{Block}
 use Rattle.nets.specs.Sums.{Raised, shares}
 
 -- ---- remainders
@@ -41,10 +40,10 @@ unfolding Raised
 raised_then n f g h a b c e r s k l = rw (e k) (in_turn (get_or a k 0) (get_or b k 0) (get_or c k 0) (g k) (h k) (r k l) (s k l))
 
 -- one sum more: what stands at n is as it was at first, and v is that with g n added
-module _ (n v : ℕ) (g : ℕ → ℕ) (a b : List ℕ) (r : Raised n g a b) (d : drop n b ≡ drop n a) where
-  pub raised_more : n < length b → v ≡ (get_or b n 0 + g n) % 4294967296 → Raised (n + 1) g a (set b n v)
+module _ (n v : ℕ) (a b : List ℕ) (d : drop n b ≡ drop n a) where
+  pub raised_more : (g : ℕ → ℕ) → Raised n g a b → n < length b → v ≡ (get_or b n 0 + g n) % 4294967296 → Raised (n + 1) g a (set b n v)
   unfolding Raised
-  raised_more l e k h =
+  raised_more g r l e k h =
       let here : get_or b n 0 ≡ get_or a n 0 = rw (add-zero n) at (sym (get_or-drop n b 0 0) ∙ ap (λ r. get_or r 0 0) d ∙ get_or-drop n a 0 0) in
       elim (ℕ_discrete k n) [
         | yes i ↦ rw (i, get_or-set_same b n v 0 l) (added (get_or a n 0) (get_or b n 0) v (g n) here e)
@@ -61,12 +60,15 @@ module _ (s : Block → ℕ → ℕ) where
   unfolding shares total
   shares_none a = raised_still 100 (shares s []) a (λ k. refl)
 
-  pub shares_more : (b : Bytes) (i : ℕ) (x : Block) (a c d : List ℕ) → i < length b / 512 → x ≡ get_or (cut 512 b) i []
-      → Raised 100 (shares s (take i (cut 512 b))) a c → Raised 100 (s x) c d → Raised 100 (shares s (take (i + 1) (cut 512 b))) a d
-  unfolding shares
-  shares_more b i x a c d h e r q =
-      let l : i < length (cut 512 b) = rw (cut_length 512 b) h in
-      raised_then 100 _ _ (s x) a c d (λ k. total_more (λ y. s y k) (cut 512 b) i [] l ∙ ap (λ y. total (λ z. s z k) (take i (cut 512 b)) + s y k) (sym e)) r q
+  module _ {l : List Block} {i : ℕ} {x : Block} (a c : List ℕ) (t : Step l i x) (r : Raised 100 (shares s (take i l)) a c) where
+    pub shares_more : (d : List ℕ) → Raised 100 (s x) c d → Raised 100 (shares s (take (i + 1) l)) a d
+    unfolding shares total
+    shares_more d q =
+        raised_then 100 _ _ (s x) a c d (λ k. ap (total (λ y. s y k)) (step_take l i x t) ∙ total_append (λ y. s y k) (take i l) (x ∷ []) ∙ ap (λ n. total (λ y. s y k) (take i l) + n) (add-zero (s x k))) r q
 
-  pub shares_all : (b : Bytes) (i : ℕ) (a c : List ℕ) → length b / 512 ≤ i → Raised 100 (shares s (take i (cut 512 b))) a c → Raised 100 (shares s (cut 512 b)) a c
-  shares_all b i a c h r = let l : length (cut 512 b) ≤ i = rw (cut_length 512 b) h in rw (take_all i (cut 512 b) l) at r
+    -- of which nothing is added
+    pub shares_passed : ((k : ℕ) → s x k ≡ 0) → Raised 100 (shares s (take (i + 1) l)) a c
+    shares_passed z = shares_more c (raised_still 100 (s x) c z)
+
+  pub shares_all : {l : List Block} {i : ℕ} (a c : List ℕ) → End l i → Raised 100 (shares s (take i l)) a c → Raised 100 (shares s l) a c
+  shares_all {l} {i} a c e r = rw (end_whole l i e) at r

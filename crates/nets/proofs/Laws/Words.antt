@@ -9,9 +9,9 @@ use Rattle.paper.specs.Book.{is_series_of, slot_of, own_series}
 use Rattle.paper.specs.Nets.{net_of, nets_to, nets_of}
 use Rattle.layout.specs.Written.{entries, with_entries}
 use Rattle.layout.proofs.Laws.{entries_length}
-use Rattle.nets.specs.Sums.{Raised, shares, share, own_share}
+use Rattle.nets.specs.Sums.{Raised, shares, share, share_if}
 use Rattle.nets.proofs.Laws.Raising.{raised_agree}
-use Rattle.nets.proofs.Laws.Nets.{Few, few_keep, net_shares, shares_own}
+use Rattle.nets.proofs.Laws.Nets.{Few, few_keep, net_shares, shares_kept}
 
 zero_at : (z : List ℕ) (k : ℕ) → zeros z ≡ true → get_or z k 0 ≡ 0
 unfolding zeros
@@ -36,10 +36,15 @@ pub nets_with_entries : (v : List ℕ) (b : Block) → length b ≡ 512 → nets
 unfolding nets with_entries
 nets_with_entries v b h = rw (entries_length v 100) at (part_written_same 108 (entries v 100) b (omega (arith, entries_length v 100)))
 
+-- of all series
+pub nets_all : (o e : Bytes) (l : List Block) (z v : List ℕ) → Few l → zeros z ≡ true → Raised 100 (shares (share_if (λ x. true) o e) l) z v → entries v 100 ≡ nets_of o e l
+unfolding shares share_if
+nets_all o e l z v f n r = entries_nets o e l z v f n (raised_agree 100 _ _ z v (λ k. refl) r)
+
 -- of the sender in its slot
-pub nets_own : (o e : Bytes) (l : List Block) (slot : ℕ) (z v : List ℕ) → Few l → zeros z ≡ true → slot ≡ slot_of l e → Raised 100 (shares (own_share o e slot) l) z v
+pub nets_own : (o e : Bytes) (l : List Block) (slot : ℕ) (z v : List ℕ) → Few l → zeros z ≡ true → slot ≡ slot_of l e → Raised 100 (shares (share_if (is_series_of slot) o e) l) z v
     → entries v 100 ≡ nets_of o e (own_series l e)
 unfolding own_series
 nets_own o e l slot z v f n q r =
-    entries_nets o e (keep (is_series_of slot) l) z v (few_keep (is_series_of slot) l f) n (raised_agree 100 _ _ z v (shares_own o e slot l) r)
+    entries_nets o e (keep (is_series_of slot) l) z v (few_keep (is_series_of slot) l f) n (raised_agree 100 _ _ z v (shares_kept (is_series_of slot) o e l) r)
     ∙ ap (λ j. nets_of o e (keep (is_series_of j) l)) q

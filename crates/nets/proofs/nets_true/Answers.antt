@@ -1,6 +1,5 @@
 -- No sender passes; a sender passes if its nets have the bytes of the sums of its own series.
 use Rattle.laws.specs.Kit.{refl, ap, ◌∙◌, ◌or◌, neg}
-use Rattle.laws.specs.Lists.{same}
 use Rattle.paper.specs.Layout.{nets}
 use Rattle.paper.specs.PlainRun.{nets_true}
 use Rattle.nets.proofs.Laws.Words.{nets_with_entries}

@@ -24,7 +24,7 @@ day_block_plain o = ap sealed (joined (numbers o.n o.lead o.rule.0) o.day (repli
     joined : (n d z a r y : Bytes) → n ++ d ++ z ++ a ++ r ++ y ≡ n ++ (d ++ (z ++ (a ++ (r ++ y))))
     joined n d z a r y = simp append_assoc
 
-module _ (o : Opening) (s : Sized o.day o.area o.receiver) where
+module _ (o : Opening) (s : Sized o) where
   field : (at n : ℕ) → at + n ≤ 508 → part at n (day_block_of o) ≡ part at n (plain o)
   field at n h = ap (part at n) (day_block_plain o) ∙ part_sealed at n (plain o) h
 

@@ -24,14 +24,14 @@ framed : (n l d u a r : Bool) → (true and n and l and true and d and u and a a
 unfolding ◌and◌
 framed n l d u a r = rw (and_true (n and l), and_true (n and l and d and u and a and r))
 
-day_sound_of : (o : Opening) → Sized o.day o.area o.receiver → o.lead < 65536 → day_sound (day_block_of o) ≡ tested o
+day_sound_of : (o : Opening) → Sized o → o.lead < 65536 → day_sound (day_block_of o) ≡ tested o
 unfolding day_sound day_fields clock_allowed is upto
 day_sound_of o s h =
     rw
     (kind_of o s, n_of_lem o s, lead_of o s h, clock_of o s, day_block_of_rule o, day_of o s, area_of o s, receiver_of o s, zeros_of o s)
     (framed (n_allowed o.n) (lead_allowed o.lead) (day_well_formed o.day) (rule_allowed o.rule) (eic_valid o.area) (eic_valid o.receiver))
 
-pub sized_allowed : (o : Opening) → opening_allowed o ≡ true → Sized o.day o.area o.receiver
+pub sized_allowed : (o : Opening) → opening_allowed o ≡ true → Sized o
 unfolding opening_allowed
 sized_allowed o e =
     let lengths = and_left _ _ (and_left _ _ e) in
@@ -41,7 +41,7 @@ sized_allowed o e =
       receiver_16 = is_yes _ _ (and_right _ _ lengths);
     }
 
-sized_tested : (o : Opening) → tested o ≡ true → Sized o.day o.area o.receiver
+sized_tested : (o : Opening) → tested o ≡ true → Sized o
 unfolding day_well_formed
 sized_tested o e =
     let codes = and_left _ _ e in

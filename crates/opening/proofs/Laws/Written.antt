@@ -14,7 +14,7 @@ numbers_written : (n lead rule : ℕ) → set (written 2 (little 2 lead) (set (s
 unfolding written little
 numbers_written n lead rule = refl
 
-module _ (o : Opening) (s : Sized o.day o.area o.receiver) where
+module _ (o : Opening) (s : Sized o) where
   block_written : written 40 o.receiver (written 24 o.area (written 8 o.day (set (written 2 (little 2 o.lead) (set (set (replicate 512 0) 0 3) 1 o.n)) 6 o.rule.0))) ≡ plain o
   unfolding little
   block_written = rw (numbers_written o.n o.lead o.rule.0, day_written, area_written) receiver_written

@@ -6,12 +6,12 @@ use Rattle.opening.proofs.write_opened.Goals as goal
 
 pub write_day_block-requires : goal.write_day_block-requires
 write_day_block-requires c =
-    let front = zeros_front c.args.book.now c.requires.0 c.zero.ensures in
+    let front = zeros_front c.args.book.now c.requires.0 (c.fill.ensures.after (λ y e. e)) in
     (ap length front, front, c.requires.1)
 
 pub returns : goal.returns
 returns c =
-    opened_zeros c.args.book.now c.requires.0 c.zero.ensures c.write_day_block.ensures
+    opened_zeros c.args.book.now c.requires.0 (c.fill.ensures.after (λ y e. e)) c.write_day_block.ensures
 
 pub slice_bounds-write_day_block-end-2 : goal.slice_bounds-write_day_block-end-2
-slice_bounds-write_day_block-end-2 c = let h : 512 ≤ length c.zero.new.s = omega arith in sym (length-take-le 512 c.zero.new.s h)
+slice_bounds-write_day_block-end-2 c = let h : 512 ≤ length c.fill.new.self = omega arith in sym (length-take-le 512 c.fill.new.self h)

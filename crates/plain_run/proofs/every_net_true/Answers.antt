@@ -1,13 +1,10 @@
--- What is found so far, with the test of the slots left, is the test of all.
-use Rattle.laws.specs.Kit.{arith, step_cut_at, end_cut, every_start, every_go, every_end}
+-- Each block is asked.
+use Rattle.std.proofs.Common.{rules}
+use Rattle.laws.specs.Kit.{arith}
+use Rattle.laws.specs.Chains.{every_all, blocks_road}
+use Rattle.paper.specs.PlainRun.{nets_true}
 use Rattle.plain_run.proofs.every_net_true.Goals as goal
 
-pub loop-i-init : goal.loop-i-init
-loop-i-init c = (omega arith, every_start _ _)
-
-pub loop-i-preserved : goal.loop-i-preserved
-loop-i-preserved c =
-    (omega arith, every_go _ c.loop-i.ok c.loop-i.invariant.1 (step_cut_at _ _ _ c.loop-i-test.true) (cc))
-
 pub returns : goal.returns
-returns c = every_end _ _ c.loop-i.invariant.1 (end_cut _ _ _ c.loop-i-test.false)
+returns c =
+    every_all (nets_true _ _) (blocks_road 512 _ (omega arith) c.chunks_exact.ensures.rest c.chunks_exact.ensures.size) (λ x b q k. search rules) c.all.ensures.ran

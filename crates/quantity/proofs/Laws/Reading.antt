@@ -1,22 +1,33 @@
 -- One turn of each loop that reads: the run of digits goes on or ends, the number grows by a digit and stays small.
-use Rattle.std.specs.Prelude.{◌≡◌, ◌+◌, ◌-◌, ◌*◌, ◌^◌, ◌≤◌, ◌<◌}
-use Rattle.laws.specs.Kit.{true, false, List, ℕ, pow-suc, pow-le-pow_right, mul-le-mul, add-one, arith, length, get_or, take, drop, drop_of_length-le, drop-cons, ◌and◌, is, upto, neg_true, and_both, upto_true, is_equal}
-use Rattle.laws.specs.Lists.{every}
+use Rattle.std.specs.Prelude.{◌≡◌, ◌+◌, ◌-◌, ◌*◌, ◌^◌, ◌≤◌, ◌<◌, ◌∷◌}
+use Rattle.laws.specs.Kit.{refl, sym, true, false, Bool, cond, not, [], List, ℕ, pow-suc, pow-le-pow_right, mul-le-mul, add-one, arith, length, get_or, take, drop, drop_of_length-le, drop-cons, ◌and◌, is, upto, neg, and_true, is_other, and_both, upto_true, is_equal}
+use Rattle.laws.specs.Lists.{every, until}
+use Rattle.std.specs.Cmp.Lexicographic.{pointwise}
+use lib.Dec.{eqb}
 use Rattle.laws.specs.Lists.Each.{every_all, all_get_or_inside}
-use Rattle.laws.specs.Lists.Keep.{until_hit, until_end}
+use Rattle.laws.specs.Lists.Keep.{until_take}
 use Rattle.paper.specs.Ids.{digit}
 use Rattle.paper.specs.QuantityText.{leading_digits, decimal_from, read_refused, read_as, worth, past_point, past_whole, unsigned_read}
-use Rattle.laws.specs.Lists.Search.{every_has_no}
+
+all_passed : (p : ℕ → Bool) (l : List ℕ) → every p (until (λ x. neg (p x)) l) ≡ true
+unfolding every until neg ◌and◌
+all_passed p [] = refl
+all_passed p (x ∷ xs) = by (p x) refl (all_passed p xs)
+  where
+    by : (b : Bool) → p x ≡ b → every p (until (λ y. neg (p y)) xs) ≡ true → every p (cond (not b) [] (x ∷ until (λ y. neg (p y)) xs)) ≡ true
+    by true e h = rw (e, h)
+    by false e h = refl
+
+pub run_digits : (s : List ℕ) (m : ℕ) → m ≡ length (until (λ x. neg (digit x)) s) → every digit (take m s) ≡ true
+run_digits s m e = rw (until_take (λ x. neg (digit x)) s m e) (all_passed digit s)
+
+-- a text that starts with b
+pub starts_with : (s : List ℕ) (b : ℕ) → 0 < b → pointwise eqb (take 1 s) (b ∷ []) ≡ is (get_or s 0 0) b
+unfolding is ◌and◌
+starts_with [] b h = sym (is_other 0 b (λ z. omega arith))
+starts_with (x ∷ xs) b h = and_true (eqb x b)
 
 module _ (s : List ℕ) (i : ℕ) where
-  pub run_hit : i < length s → every digit (take i s) ≡ true → digit (get_or s i 0) ≡ false → i ≡ leading_digits s
-  unfolding leading_digits
-  run_hit h e f = until_hit _ s i 0 h (every_has_no digit (take i s) e) (neg_true _ f)
-
-  pub run_end : length s ≤ i → i ≤ length s → every digit (take i s) ≡ true → i ≡ leading_digits s
-  unfolding leading_digits
-  run_end h l e = until_end _ s i (omega arith) (every_has_no digit (take i s) e)
-
   pub each_digit : i < length s → every digit s ≡ true → digit (get_or s i 0) ≡ true
   each_digit h e = all_get_or_inside (λ x. digit x ≡ true) s i 0 h (every_all digit s e)
 

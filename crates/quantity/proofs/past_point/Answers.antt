@@ -6,28 +6,21 @@ use Rattle.quantity.proofs.past_point.Goals as goal
 
 pub returns-then-m-lt1 : goal.returns-then-m-lt1
 returns-then-m-lt1 c =
-    c.read_refused.ensures ∙ point_refused _ _ c.leading_digits-m.ensures.0 _ (and_no_left _ _ (and_no_left _ _ (upto_false _ _ (omega arith))))
+    point_refused _ _ c.leading_digits-m.ensures.0 _ (and_no_left _ _ (and_no_left _ _ (upto_false _ _ (omega arith))))
 
 pub returns-then-m-gt3 : goal.returns-then-m-gt3
 returns-then-m-gt3 c =
-    c.read_refused-then-m-gt3.ensures ∙ point_refused _ _ c.leading_digits-m.ensures.0 _ (and_no_left _ _ (and_no_right _ _ (upto_false _ _ (omega arith))))
+    point_refused _ _ c.leading_digits-m.ensures.0 _ (and_no_left _ _ (and_no_right _ _ (upto_false _ _ (omega arith))))
 
 pub returns-then-m-s : goal.returns-then-m-s
 returns-then-m-s c =
-    c.read_refused-then-m-s.ensures ∙ point_refused _ _ c.leading_digits-m.ensures.0 _ (and_no_right _ _ (is_other _ _ c.if-m-s.true))
+    point_refused _ _ c.leading_digits-m.ensures.0 _ (and_no_right _ _ (is_other _ _ c.if-m-s.true))
 
 pub decimal_from-requires : goal.decimal_from-requires
 decimal_from-requires c =
     let h : length c.args.s.now ≤ c.leading_digits-m.result = omega arith in
     (omega arith, rw (take_all _ _ h) at c.leading_digits-m.ensures.2)
 
-pub overflow_mul-decimal_from : goal.overflow_mul-decimal_from
-overflow_mul-decimal_from c = omega (arith, product_small _ _ c.decimal_from.ensures.1 c.worth.ensures.1)
-
-pub overflow_add-w : goal.overflow_add-w
-overflow_add-w c = omega (arith, product_small _ _ c.decimal_from.ensures.1 c.worth.ensures.1)
-
 pub returns : goal.returns
 returns c =
-    c.read_as.ensures
-    ∙ point_read _ _ c.leading_digits-m.ensures.0 _ (omega arith) (omega arith) (omega arith) _ _ c.decimal_from.ensures.0 c.worth.ensures.0
+    point_read _ _ c.leading_digits-m.ensures.0 _ (omega arith) (omega arith) (omega arith) _ _ c.decimal_from.ensures.0 c.worth.ensures.0

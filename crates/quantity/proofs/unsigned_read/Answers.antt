@@ -6,11 +6,11 @@ use Rattle.quantity.proofs.unsigned_read.Goals as goal
 
 pub returns-then-m-lt1 : goal.returns-then-m-lt1
 returns-then-m-lt1 c =
-    c.read_refused.ensures ∙ unsigned_refused _ _ c.leading_digits-m.ensures.0 (and_no_left _ _ (upto_false _ _ (omega arith)))
+    unsigned_refused _ _ c.leading_digits-m.ensures.0 (and_no_left _ _ (upto_false _ _ (omega arith)))
 
 pub returns-then-m-gt4 : goal.returns-then-m-gt4
 returns-then-m-gt4 c =
-    c.read_refused-then-m-gt4.ensures ∙ unsigned_refused _ _ c.leading_digits-m.ensures.0 (and_no_right _ _ (upto_false _ _ (omega arith)))
+    unsigned_refused _ _ c.leading_digits-m.ensures.0 (and_no_right _ _ (upto_false _ _ (omega arith)))
 
 pub decimal_from-w-requires : goal.decimal_from-w-requires
 decimal_from-w-requires c = (simp length-take (omega arith), c.leading_digits-m.ensures.2)

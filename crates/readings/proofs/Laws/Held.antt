@@ -1,14 +1,19 @@
 -- What a party holds under a pair, by the place of its trade, and the final value of the pair from there.
-use Rattle.std.specs.Prelude.{◌≡◌, ◌++◌}
-use Rattle.laws.specs.Kit.{true, false, some, List, [], ℕ, arith, ◌and◌, neg, is, split, neg_or_neg, is_yes, is_no}
+use Rattle.std.specs.Prelude.{◌≡◌, ◌++◌, ◌≤◌, ◌<◌, min}
+use Rattle.laws.specs.Kit.{true, false, some, List, [], ℕ, arith, ◌and◌, neg, is, less, split, neg_or_neg, is_yes, is_no, less_yes, less_no}
 use Rattle.laws.specs.Lists.{place}
 use Rattle.laws.specs.Slices.{part_past}
 use Rattle.paper.specs.declared.Rule.{Rule}
 use Rattle.paper.specs.Layout.{Bytes, Block, quantities, entry}
 use Rattle.paper.specs.Book.{numbered, slot_of, is_trade_of}
-use Rattle.paper.specs.Finals.{final_of, held, is_held, held_at, final_refused}
+use Rattle.paper.specs.Finals.{lesser_of, final_of, held, is_held, held_at, final_refused}
 use Rattle.readings.specs.Held.{final_held}
 use Rattle.readings.proofs.Laws.Found.{found_none, found_some}
+
+pub lesser_min : (sellers buyers : ℕ) → min sellers buyers ≡ lesser_of sellers buyers
+unfolding lesser_of
+lesser_min s b =
+    split (less b s) (λ t. rw t (let h : b < s = less_yes b s t in omega arith)) (λ t. rw t (let h : s ≤ b = less_no b s t in omega arith))
 
 module _ (us : List Block) (e p : Bytes) (t : ℕ) (q : t ≡ place (is_trade_of (slot_of us e) (some p)) us) where
   pub held_is : is_held (held us e p) ≡ neg (is t 0)

@@ -1,11 +1,13 @@
 -- The place of the stored series says whether there is one, and where its mark stands.
-use Rattle.laws.specs.Kit.{◌∙◌}
+use Rattle.laws.specs.Kit.{◌∙◌, sym, is, is_yes, is_no}
 use Rattle.readings.proofs.Laws.Marks.{mark_none, mark_some}
 use Rattle.readings.proofs.mark_in.Goals as goal
 
-pub returns-then-slot-eq0 : goal.returns-then-slot-eq0
-returns-then-slot-eq0 c = c.mark_refused.ensures ∙ mark_none _ _ _ _ c.stored_as-slot.ensures c.if-slot-eq0.true
+pub returns-then-eq : goal.returns-then-eq
+unfolding is
+returns-then-eq c = c.mark_refused.ensures ∙ mark_none _ _ _ _ c.stored_as-slot.ensures (is_yes _ _ (sym c.eq.ensures ∙ c.if-eq.true))
 
 pub returns : goal.returns
+unfolding is
 returns c =
-    c.mark_of.ensures ∙ mark_some _ _ _ _ c.stored_as-slot.ensures c.if-slot-eq0.false c.numbered.ensures
+    c.mark_of.ensures ∙ mark_some _ _ _ _ c.stored_as-slot.ensures (is_no _ _ (sym c.eq.ensures ∙ c.if-eq.false)) c.numbered.ensures

@@ -1,28 +1,91 @@
--- The walk over a message turn by turn, and the text of a listing in a buffer that has room for it.
-use Rattle.std.specs.Prelude.{◌≡◌, [], ◌∷◌, ℕ, suc, ◌+◌, ◌-◌, ◌≤◌, ◌<◌, length}
-use Rattle.std.proofs.Common.{arith}
+-- Names that are none, the walk over a message turn by turn, and the text of a listing in a buffer that has room for it.
+use Rattle.std.specs.Prelude.{◌≡◌, Bool, true, false, [], ◌∷◌, ℕ, suc, ◌+◌, ◌-◌, ◌≤◌, ◌<◌, length}
+use Rattle.std.specs.Int.{from_bool}
+use Rattle.std.proofs.Common.{refl, arith}
 use Rattle.laws.specs.Bytes.{part}
 use Rattle.laws.specs.Bytes.Laws.{part_written_same}
-use Rattle.laws.specs.Tests.Laws.{is_equal, is_other, less_false}
+use Rattle.laws.specs.Slices.{part_past}
+use Rattle.laws.specs.Tests.{is}
+use Rattle.laws.specs.Tests.Laws.{is_other, less_false, or_yes_left, upto_true}
+use Rattle.stream.specs.declared.tag.Tag.{Tag}
+use Rattle.stream.specs.declared.tag.Tag.TheVariants.{Length, Bytes as SetBytes, Book, Sum, Open, Clock, Submit, Mark, Block, Final, Plain, Reader, Walk, Listing, Sound, Eic, Id, Read, Print, Check, Seal, Code, Judge, OpenBy, Convert, Right, Settled}
+use Rattle.stream.specs.Tags.{number_of}
+use Rattle.stream.specs.Line.{told_line}
+use Rattle.stream.specs.Fields.{name_end, rest_from}
 use Rattle.paper.specs.Layout.{Bytes}
 use Rattle.paper.specs.Check.{check_from}
 use Rattle.reader.specs.Walk.{series_at}
 use Rattle.listing_text.specs.Text.{text_length, text_into}
-use Rattle.replay_answers.specs.Answers.{walk_on}
+use Rattle.replay_answers.specs.Answers.{yes_or_no, numbers_told, line_of, walk_on}
+
+-- ---- yes and no as numbers
+
+pub as_number : (b : Bool) → from_bool b ≡ yes_or_no b
+as_number true = refl
+as_number false = refl
+
+-- ---- where a name is none
+
+-- what would stand behind it is none too, and does not fill the body
+pub none_behind : (body : Bytes) → length body < 18446744073709551615 → name_end body 18446744073709551615 ≡ 18446744073709551615
+unfolding name_end
+none_behind body h = rw (or_yes_left _ _ (or_yes_left _ _ (upto_true (length body) 18446744073709551615 (omega arith))))
+
+pub none_fills : (body : Bytes) → length body < 18446744073709551615 → is 18446744073709551615 (length body) ≡ false
+none_fills body h = is_other _ _ (λ e. omega arith)
+
+pub none_left : (body : Bytes) → length body < 18446744073709551615 → is (length (rest_from body 18446744073709551615)) 2 ≡ false
+unfolding rest_from is
+none_left body h = rw (part_past 18446744073709551615 (length body) body (omega arith))
+
+-- ---- the line of a call that shows no bytes
+
+pub plain_line : (t : Tag) (book body : Bytes) → (t ≡ Block → ⊥) → (t ≡ Reader → ⊥) → (t ≡ Listing → ⊥) → (t ≡ Print → ⊥) → (t ≡ Seal → ⊥)
+    → line_of (number_of t) book body ≡ told_line (number_of t) (numbers_told (number_of t) book body)
+unfolding line_of is
+plain_line Length book body a b l p s = refl
+plain_line SetBytes book body a b l p s = refl
+plain_line Book book body a b l p s = refl
+plain_line Sum book body a b l p s = refl
+plain_line Open book body a b l p s = refl
+plain_line Clock book body a b l p s = refl
+plain_line Submit book body a b l p s = refl
+plain_line Mark book body a b l p s = refl
+plain_line Block book body a b l p s = absurd (a refl)
+plain_line Final book body a b l p s = refl
+plain_line Plain book body a b l p s = refl
+plain_line Reader book body a b l p s = absurd (b refl)
+plain_line Walk book body a b l p s = refl
+plain_line Listing book body a b l p s = absurd (l refl)
+plain_line Sound book body a b l p s = refl
+plain_line Eic book body a b l p s = refl
+plain_line Id book body a b l p s = refl
+plain_line Read book body a b l p s = refl
+plain_line Print book body a b l p s = absurd (p refl)
+plain_line Check book body a b l p s = refl
+plain_line Seal book body a b l p s = absurd (s refl)
+plain_line Code book body a b l p s = refl
+plain_line Judge book body a b l p s = refl
+plain_line OpenBy book body a b l p s = refl
+plain_line Convert book body a b l p s = refl
+plain_line Right book body a b l p s = refl
+plain_line Settled book body a b l p s = refl
+
+-- ---- a walk and a listing
 
 -- a series is there: it is counted and summed
-pub walk_more : (m : Bytes) (k s : ℕ) → k < 200 → (length (series_at m (k + 1)) ≡ 0 → ⊥) → walk_on (200 - (k + 1)) m (k + 1) (check_from s (series_at m (k + 1))) ≡ walk_on (200 - k) m k s
+pub walk_more : (m : Bytes) (k s : ℕ) → k < 200 → is (length (series_at m (k + 1))) 0 ≡ false → walk_on (200 - (k + 1)) m (k + 1) (check_from s (series_at m (k + 1))) ≡ walk_on (200 - k) m k s
 unfolding walk_on
 walk_more m k s h some =
     let left : 200 - k ≡ suc (200 - (k + 1)) = omega arith in
-    rw (left, is_other _ _ some)
+    rw (left, some)
 
 -- none is there
-pub walk_stop : (m : Bytes) (k s : ℕ) → k < 200 → length (series_at m (k + 1)) ≡ 0 → walk_on (200 - k) m k s ≡ k ∷ s ∷ []
+pub walk_stop : (m : Bytes) (k s : ℕ) → k < 200 → is (length (series_at m (k + 1))) 0 ≡ true → walk_on (200 - k) m k s ≡ k ∷ s ∷ []
 unfolding walk_on
 walk_stop m k s h none =
     let left : 200 - k ≡ suc (200 - (k + 1)) = omega arith in
-    rw (left, is_equal _ _ none)
+    rw (left, none)
 
 -- no more may be asked for
 pub walk_end : (m : Bytes) (k s : ℕ) → 200 ≤ k → walk_on (200 - k) m k s ≡ k ∷ s ∷ []

@@ -1,16 +1,14 @@
--- Of the first j blocks it is known.
-use Rattle.std.specs.Prelude.{◌≡◌}
-use Rattle.laws.specs.Kit.{arith, [], ◌or◌}
-use Rattle.settlement_text.proofs.Laws.{inside, appears_none, appears_more}
+-- A party appears where one of the blocks names it.
+use Rattle.std.proofs.Common.{rules}
+use Rattle.std.proofs.lemmas.Iterator.{YieldsList-from_take}
+use Rattle.std.proofs.lemmas.Iterator.Consumers.{YieldsList-at}
+use Rattle.laws.specs.Kit.{arith, ◌∙◌}
+use Rattle.laws.specs.Chains.{has_any, blocks_road}
+use Rattle.settlement_text.proofs.Laws.{naming, appears_named}
 use Rattle.settlement_text.proofs.appears.Goals as goal
 
-pub loop-j-init : goal.loop-j-init
-loop-j-init c = (omega arith, appears_none [] _)
-
-pub loop-j-preserved : goal.loop-j-preserved
-unfolding ◌or◌
-loop-j-preserved c =
-    (omega arith, appears_more _ _ (inside _ _ _ c.loop-j-test.true c.requires) c.block_at.ensures _ c.loop-j.invariant.1 c.names_party-found.ensures)
-
 pub returns : goal.returns
-returns c = let e : c.loop-j.j ≡ c.args.i = omega (arith, c.loop-j.invariant.0, c.loop-j-test.false) in rw e at c.loop-j.invariant.1
+returns c =
+    let blocks = YieldsList-at c.take.ensures.source (blocks_road 512 _ (omega arith) c.chunks_exact.ensures.rest c.chunks_exact.ensures.size) in
+    has_any (naming c.args.party.now) (YieldsList-from_take _ blocks c.take.ensures.count) (λ x b q k. search rules) c.any.ensures.ran
+    ∙ appears_named _ _

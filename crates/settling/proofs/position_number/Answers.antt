@@ -1,19 +1,10 @@
--- Each refusal is the definition's, in its order.
-use Rattle.settling.proofs.Laws.{no_position, above_n_lem, still_open, is_closed}
-use Rattle.std.proofs.Common.{◌∙◌}
-use Rattle.std.proofs.Common.{sym}
+-- The index of the position, or why there is none, tells the number.
+use Rattle.laws.specs.Kit.{sym, ap, ◌∙◌}
+use Rattle.settling.proofs.Laws.{number_by, number_by_index}
 use Rattle.settling.proofs.position_number.Goals as goal
 
-pub returns-then-p-eq0 : goal.returns-then-p-eq0
-returns-then-p-eq0 c = no_position _ _ c.if-p-eq0.true
+pub returns-in-Ok : goal.returns-in-Ok
+returns-in-Ok c = ap number_by (sym c.in-Ok.is ∙ c.closed_index.ensures.0) ∙ number_by_index _ _
 
-pub returns-then-n_of-p : goal.returns-then-n_of-p
-returns-then-n_of-p c = above_n_lem _ _ c.if-p-eq0.false (rw c.n_of.ensures at c.if-n_of-p.true)
-
-pub returns-then-not-closed : goal.returns-then-not-closed
-returns-then-not-closed c =
-    still_open _ _ c.if-p-eq0.false (rw c.n_of.ensures at c.if-n_of-p.false) (sym c.closed.ensures ∙ c.if-not-closed.true)
-
-pub returns : goal.returns
-returns c =
-    is_closed _ _ c.if-p-eq0.false (rw c.n_of.ensures at c.if-n_of-p.false) (sym c.closed.ensures ∙ c.if-not-closed.false)
+pub returns-in-Err : goal.returns-in-Err
+returns-in-Err c = c.number.ensures ∙ ap number_by (sym c.in-Err.is ∙ c.closed_index.ensures.0) ∙ number_by_index _ _

@@ -1,20 +1,18 @@
--- What stands before the first free slot is the slots passed by and what stands before it among the rest.
-use Rattle.laws.specs.Kit.{arith, step_cut_at, end_cut, until_rest_start, until_rest_go, until_rest_hit, until_rest_end}
+-- How many stand before the first free slot; all of them where there is none.
+use Rattle.std.specs.Option.{unwrap_or}
+use Rattle.laws.specs.Kit.{arith, sym, ap, ◌∙◌}
+use Rattle.laws.specs.Lists.Keep.{until_length}
+use Rattle.laws.specs.Cut.{cut}
+use Rattle.laws.specs.Cut.Laws.{cut_length}
+use Rattle.laws.specs.Chains.{until_found, blocks_road}
 use Rattle.paper.specs.Book.{is_free}
-use Rattle.slots.proofs.Laws.{found_so}
 use Rattle.std.proofs.Common.{rules}
 use Rattle.slots.proofs.used_count.Goals as goal
 
-pub loop-i-init : goal.loop-i-init
-loop-i-init c = (search rules, until_rest_start _ _)
-
-pub returns-then-is_free : goal.returns-then-is_free
-returns-then-is_free c =
-    (until_rest_hit _ c.loop-i.invariant.1 (step_cut_at _ _ _ c.loop-i-test.true) (found_so is_free c.block_at.ensures c.is_free.ensures c.if-is_free.true), omega arith)
-
-pub loop-i-preserved : goal.loop-i-preserved
-loop-i-preserved c =
-    (omega arith, until_rest_go _ c.loop-i.invariant.1 (step_cut_at _ _ _ c.loop-i-test.true) (found_so is_free c.block_at.ensures c.is_free.ensures c.if-is_free.false))
-
 pub returns : goal.returns
-returns c = (until_rest_end _ c.loop-i.invariant.1 (end_cut _ _ _ c.loop-i-test.false), omega arith)
+returns c =
+    let e =
+    c.unwrap_or.ensures ∙ ap (λ n. unwrap_or c.position.result n) (sym (cut_length 512 c.args.slots.now))
+    ∙ until_found is_free (blocks_road 512 _ (omega arith) c.chunks_exact.ensures.rest c.chunks_exact.ensures.size) (λ x b q k. search rules) c.position.ensures.ran
+    in
+    (e, omega (arith, e, until_length is_free (cut 512 c.args.slots.now), cut_length 512 c.args.slots.now))

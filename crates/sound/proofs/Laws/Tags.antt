@@ -1,6 +1,6 @@
 -- Two blocks whose tags both differ do not clash.
 use Rattle.std.specs.Prelude.{◌≡◌, ◌+◌, ◌≤◌, ◌<◌}
-use Rattle.laws.specs.Kit.{sym, ap, ◌∙◌, true, false, List, [], ℕ, arith, length, drop, get_or, set, get_or-set_same, get_or-set_other, ◌and◌, ◌or◌, is, less, split, clash, and_left, and_right, or_no, or_else, or_yes_left, or_yes_right, is_equal, less_yes, less_no}
+use Rattle.laws.specs.Kit.{sym, ap, ◌∙◌, true, false, List, [], ℕ, arith, length, drop, get_or, set, get_or-set_same, get_or-set_other, ◌or◌, is, less, split, clash, and_left, and_right, or_no, or_else, or_yes_left, or_yes_right, is_equal, less_yes, less_no}
 use mathlib.Core.Bool.{◌||◌}
 use lib.Dec.{eqb}
 use Rattle.laws.specs.Lists.{same}
@@ -15,22 +15,23 @@ use Rattle.facts.specs.Book.{series_not_sender, right_not_sender}
 use Rattle.facts.specs.Keys.{key_back, key_business}
 use Rattle.sound.specs.Used.{clashes}
 use Rattle.index.specs.Tags.{tag_of}
-use Rattle.sound.specs.Links.{wide_tag, key_tag, id_tag, Tags}
+use Rattle.sound.specs.Links.{wide_tag, key_tag, id_tag, Tagged}
+use Rattle.sound.specs.declared.links.Tag.{Tag}
 
-pub tags_none : (s : Bytes) (u v : List ℕ) → Tags (cut 512 s) 0 u v
-unfolding Tags
-tags_none s u v j h = absurd (omega arith)
+pub tagged_none : (s : Bytes) (l : List Tag) → Tagged (cut 512 s) 0 l
+unfolding Tagged
+tagged_none s l j h d = absurd (omega arith)
 
-pub tags_more : (s : Bytes) (i : ℕ) (u v : List ℕ) {b : Block} {x y : ℕ} → i < length u → i < length v → b ≡ get_or (cut 512 s) i [] → x ≡ id_tag b → y ≡ key_tag b
-    → Tags (cut 512 s) i u v → Tags (cut 512 s) (i + 1) (set u i x) (set v i y)
-unfolding Tags
-tags_more s i u v h k e q r a j c =
+pub tagged_more : (s : Bytes) (i : ℕ) (l : List Tag) {b : Block} (t : Tag) → i < length l → b ≡ get_or (cut 512 s) i [] → (t.id ≡ id_tag b) × (t.key ≡ key_tag b)
+    → Tagged (cut 512 s) i l → Tagged (cut 512 s) (i + 1) (set l i t)
+unfolding Tagged
+tagged_more s i l t h e q a j c d =
     split (less j i)
-    (λ t. let w : j < i = less_yes j i t in (get_or-set_other u i j _ 0 (λ z. omega arith) ∙ (a j w).0, get_or-set_other v i j _ 0 (λ z. omega arith) ∙ (a j w).1))
-    (λ t. let z : j ≡ i = omega (arith, less_no j i t) in rw z (get_or-set_same u i _ 0 h ∙ q ∙ ap id_tag e, get_or-set_same v i _ 0 k ∙ r ∙ ap key_tag e))
+    (λ v. let w : j < i = less_yes j i v in rw (get_or-set_other l i j t d (λ z. omega arith)) (a j w d))
+    (λ v. let z : j ≡ i = omega (arith, less_no j i v) in rw (z, get_or-set_same l i t d h, ← e) q)
 
-pub tags_all : (s : Bytes) (i m : ℕ) (u v : List ℕ) → i ≤ m → m ≤ i → Tags (cut 512 s) i u v → Tags (cut 512 s) m u v
-tags_all s i m u v h k a = let e : i ≡ m = omega arith in rw e at a
+pub tagged_all : (s : Bytes) (i m : ℕ) (l : List Tag) → i ≤ m → m ≤ i → Tagged (cut 512 s) i l → Tagged (cut 512 s) m l
+tagged_all s i m l h k a = let e : i ≡ m = omega arith in rw e at a
 
 -- ---- what clashes has one tag in common
 
@@ -94,8 +95,12 @@ tag_clash a b e =
     (λ w. or_yes_right _ _ (is_equal _ _ (series_key_tag a b u v (or_else _ _ (and_right _ _ s) w)))))
     (λ s. or_yes_right _ _ (is_equal _ _ (right_tag a b (or_else _ _ e (or_no _ _ t s))))))
 
-pub tags_apart : (s : Bytes) (m : ℕ) (u v : List ℕ) (i j : ℕ) → Tags (cut 512 s) m u v → i < m → j < m → (eqb (get_or u i 0) (get_or u j 0) || eqb (get_or v i 0) (get_or v j 0)) ≡ false
-    → false ≡ clashes (get_or (cut 512 s) i []) (get_or (cut 512 s) j [])
-unfolding Tags is ◌or◌
-tags_apart s m u v i j a h k e =
-    sym (split (clashes (get_or (cut 512 s) i []) (get_or (cut 512 s) j [])) (λ t. clash (tag_clash _ _ t) (rw ((a i h).0, (a j k).0, (a i h).1, (a j k).1) at e)) (λ t. t))
+pub tags_apart : (s : Bytes) (m : ℕ) (l : List Tag) (i j : ℕ) (d t : Tag) → Tagged (cut 512 s) m l → (t.id ≡ id_tag (get_or (cut 512 s) i [])) → (t.key ≡ key_tag (get_or (cut 512 s) i [])) → j < m
+    → (eqb t.id (get_or l j d).id || eqb t.key (get_or l j d).key) ≡ false → false ≡ clashes (get_or (cut 512 s) i []) (get_or (cut 512 s) j [])
+unfolding Tagged is ◌or◌
+tags_apart s m l i j d t a u v k e =
+    sym (split (clashes (get_or (cut 512 s) i []) (get_or (cut 512 s) j [])) (λ w. clash (tag_clash _ _ w) (rw (u, (a j k d).0, v, (a j k d).1) at e)) (λ w. w))
+
+pub tag_at : (s : Bytes) (m : ℕ) (l : List Tag) → Tagged (cut 512 s) m l → (i : ℕ) → i < m → (d : Tag) → ((get_or l i d).id ≡ id_tag (get_or (cut 512 s) i [])) × ((get_or l i d).key ≡ key_tag (get_or (cut 512 s) i []))
+unfolding Tagged
+tag_at s m l a i h d = a i h d

@@ -1,13 +1,12 @@
--- Those up to i are judged, and the rest gives what is left to judge.
-use Rattle.laws.specs.Kit.{ap, ◌∙◌, step_cut_at, end_cut, every_start, every_go, every_end}
+-- Every block is judged.
+use Rattle.laws.specs.Kit.{arith}
+use Rattle.std.proofs.Common.{rules}
+use Rattle.laws.specs.Chains.{every_all, blocks_road}
+use Rattle.sound_blocks.specs.Layouts.{allowed_in}
+use Rattle.laws.specs.Cut.{cut}
 use Rattle.sound.specs.Used.{used_fields}
 use Rattle.sound.proofs.all_fields.Goals as goal
 
-pub loop-i-init : goal.loop-i-init
-loop-i-init c = every_start _ _
-
-pub loop-i-preserved : goal.loop-i-preserved
-loop-i-preserved c = every_go _ _ c.loop-i.invariant (step_cut_at _ _ _ c.loop-i-test.true) (c.used_fields-ok.ensures ∙ ap (used_fields _ _ _) c.block_at.ensures)
-
 pub returns : goal.returns
-returns c = every_end _ _ c.loop-i.invariant (end_cut _ _ _ c.loop-i-test.false)
+returns c =
+    every_all (used_fields (allowed_in c.args.old) c.args.d.now (cut 512 c.args.us.now)) (blocks_road 512 _ (omega arith) c.chunks_exact.ensures.rest c.chunks_exact.ensures.size) (λ x b q k. search rules) c.all.ensures.ran

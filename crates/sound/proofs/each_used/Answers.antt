@@ -6,16 +6,16 @@ use Rattle.laws.specs.Kit.{◌∙◌}
 use Rattle.laws.specs.Kit.{sym}
 use Rattle.sound.proofs.each_used.Goals as goal
 
-pub returns-then-not-all_fields : goal.returns-then-not-all_fields
+pub returns-else-all_fields : goal.returns-else-all_fields
 unfolding ◌and◌
-returns-then-not-all_fields c = rw (each_used_lem, (sym c.all_fields.ensures ∙ c.if-not-all_fields.true))
+returns-else-all_fields c = rw (each_used_lem, (sym c.all_fields.ensures ∙ c.if-all_fields.false)) c.if-all_fields.false
 
 pub linked_sound-requires : goal.linked_sound-requires
 linked_sound-requires c =
     let p = c.requires in
-    (p.1, fields_grouped _ _ _ p.1 (sym c.all_fields.ensures ∙ c.if-not-all_fields.false))
+    (p.1, fields_grouped _ _ _ p.1 (sym c.all_fields.ensures ∙ c.if-all_fields.true))
 
-pub returns : goal.returns
+pub returns-then-all_fields : goal.returns-then-all_fields
 unfolding ◌and◌
-returns c =
-    rw (each_used_lem, (sym c.all_fields.ensures ∙ c.if-not-all_fields.false)) c.linked_sound.ensures
+returns-then-all_fields c =
+    rw (each_used_lem, (sym c.all_fields.ensures ∙ c.if-all_fields.true)) c.linked_sound.ensures

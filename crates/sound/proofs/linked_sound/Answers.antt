@@ -5,15 +5,15 @@ use Rattle.laws.specs.Kit.{◌∙◌}
 use Rattle.laws.specs.Kit.{sym}
 use Rattle.sound.proofs.linked_sound.Goals as goal
 
-pub returns-then-not-blocks_apart : goal.returns-then-not-blocks_apart
+pub returns-else-blocks_apart : goal.returns-else-blocks_apart
 unfolding linked_sound ◌and◌
-returns-then-not-blocks_apart c = rw (sym c.blocks_apart.ensures ∙ c.if-not-blocks_apart.true)
+returns-else-blocks_apart c = rw (sym c.blocks_apart.ensures ∙ c.if-blocks_apart.false) c.if-blocks_apart.false
 
 pub counts_right-requires : goal.counts_right-requires
 counts_right-requires c =
-    (c.requires.0, c.link.ensures, (sym c.blocks_apart.ensures ∙ c.if-not-blocks_apart.false))
+    (c.requires.0, c.link_groups-buckets.ensures, (sym c.blocks_apart.ensures ∙ c.if-blocks_apart.true))
 
-pub returns : goal.returns
+pub returns-then-blocks_apart : goal.returns-then-blocks_apart
 unfolding linked_sound ◌and◌
-returns c =
-    rw (sym c.blocks_apart.ensures ∙ c.if-not-blocks_apart.false) c.counts_right.ensures
+returns-then-blocks_apart c =
+    rw (sym c.blocks_apart.ensures ∙ c.if-blocks_apart.true) c.counts_right.ensures

@@ -1,6 +1,5 @@
 -- What the links find is the message's trade with the block's pair; an external schedule trades with none.
 use Rattle.laws.specs.Kit.{arith}
-use Rattle.laws.specs.Cut.Laws.{cut_length}
 use Rattle.accept.proofs.Laws.Looking.{number_sought, number_none, number_few}
 use Rattle.laws.specs.Kit.{◌∙◌}
 use Rattle.laws.specs.Kit.{sym}
@@ -11,8 +10,7 @@ returns-then-not-is_trade c =
     (number_none _ c.requires.0 _ (sym c.is_trade.ensures ∙ c.if-not-is_trade.true), omega arith)
 
 pub own_with-requires : goal.own_with-requires
-own_with-requires c =
-    (omega (arith, c.requires.0.few, cut_length 512 c.args.series.now), c.requires.1)
+own_with-requires c = c.requires.1
 
 pub returns : goal.returns
 returns c =

@@ -5,4 +5,4 @@ use Rattle.accept.proofs.remarking.is_touched.Goals as goal
 
 pub returns : goal.returns
 unfolding touched_by ◌and◌ ◌or◌ neg is
-returns c = rw (c.senders_slot.ensures, c.is_series.ensures)
+returns c = rw (c.eq.ensures, c.senders_slot.ensures, c.is_series.ensures)

@@ -1,13 +1,9 @@
--- The rows begin empty; what the looks have found tells the sides of each trade.
-use Rattle.laws.specs.Kit.{refl, ◌and◌, is}
-use Rattle.laws.specs.Lists.{every}
-use Rattle.paper.specs.Layout.{zeros}
+-- What the looks have found tells the sides of each trade.
 use Rattle.accept.proofs.Laws.Touching.{sides_found}
 use Rattle.accept.proofs.remarking.remark_all.Goals as goal
 
 pub look_all-looked-requires : goal.look_all-looked-requires
-unfolding zeros every ◌and◌ is
-look_all-looked-requires c = (c.requires.1, c.requires.2.sent, refl, refl, refl, refl, refl)
+look_all-looked-requires c = (c.requires.1, c.requires.2.sent)
 
 pub remark_each-requires : goal.remark_each-requires
 remark_each-requires c =

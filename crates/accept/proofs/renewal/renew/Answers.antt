@@ -23,11 +23,11 @@ write_series-requires c =
     let k = c.args.number in
     c.requires.0 ∙ sym (ap length c.block_at.ensures ∙ block_whole c.args.series.now (k - 1) (omega (arith, cut_length 512 c.args.series.now, place_within _ (cut 512 c.args.series.now) k c.requires.1)))
 
-pub returns-then-is_series_of : goal.returns-then-is_series_of
-returns-then-is_series_of c =
+pub returns-else-number-eq0 : goal.returns-else-number-eq0
+returns-else-number-eq0 c =
     c.write_series.ensures ∙ ap (with_senders_slot c.args.slot.0) c.block_at.ensures
     ∙ renewed_series _ _ _ _ c.if-is_sender_block_of.false (rw c.sender.ensures at c.is_sender_block_of.ensures) c.if-is_series_of.true c.is_series_of.ensures _ c.requires.1 c.if-number-eq0.false
 
-pub returns : goal.returns
-returns c =
+pub returns-else-is_series_of : goal.returns-else-is_series_of
+returns-else-is_series_of c =
     renewed_other _ _ _ _ c.if-is_sender_block_of.false (rw c.sender.ensures at c.is_sender_block_of.ensures) c.if-is_series_of.false c.is_series_of.ensures

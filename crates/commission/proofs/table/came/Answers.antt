@@ -1,51 +1,65 @@
--- Each arm calls what the definition names for its command.
-use Rattle.laws.specs.Kit.{arith, ap, refl, is, is_other}
+-- Each arm calls what the definition names for its command's number; no other command has one that it names.
+use Rattle.std.specs.Prelude.{◌≡◌, Option, Some}
+use Rattle.laws.specs.Kit.{ap, ◌∙◌, refl, inl, inr, is}
 use Rattle.paper.specs.declared.QuantityRead.{QuantityRead}
+use Rattle.desk_text.specs.declared.commands.Command.{Command}
+use Rattle.desk_text.specs.Commands.{number_of}
 use Rattle.cases_site.specs.Site.{came, book_after}
 use Rattle.commission.proofs.table.came.Goals as goal
 
-pub returns-in-1 : goal.returns-in-1
-unfolding came book_after is
-returns-in-1 c = rw c.in-1.is c.opened.ensures
+number : {command : Option Command} {d e : Command} → command ≡ Some d → d ≡ e → number_of command ≡ number_of (Some e)
+number h k = ap number_of (h ∙ ap Some k)
 
-pub returns-in-2 : goal.returns-in-2
-unfolding came book_after is
-returns-in-2 c = rw c.in-2.is c.clock.ensures
+pub returns-in-Open : goal.returns-in-Open
+unfolding came book_after number_of is
+returns-in-Open c = rw (number c.in-Some.is c.in-Open.is) c.opened.ensures
 
-pub returns-in-3 : goal.returns-in-3
-unfolding came book_after is
-returns-in-3 c = rw c.in-3.is c.sold.ensures
+pub returns-in-Clock : goal.returns-in-Clock
+unfolding came book_after number_of is
+returns-in-Clock c = rw (number c.in-Some.is c.in-Clock.is) c.clock.ensures
 
-pub returns-in-5 : goal.returns-in-5
-unfolding came book_after is
-returns-in-5 c = rw c.in-5.is (c.kept_version.ensures, refl)
+pub returns-in-Submit : goal.returns-in-Submit
+unfolding came book_after number_of is
+returns-in-Submit c = rw (number c.in-Some.is c.in-Submit.is) c.sold.ensures
 
-pub returns-in-6 : goal.returns-in-6
-unfolding came book_after is
-returns-in-6 c = rw c.in-6.is (c.final_number.ensures, refl)
+pub returns-in-Block : goal.returns-in-Block
+unfolding came book_after number_of is
+returns-in-Block c = rw (number c.in-Some.is c.in-Block.is) (c.kept_version.ensures, refl)
 
-pub returns-in-9 : goal.returns-in-9
-unfolding came book_after is
-returns-in-9 c = rw c.in-9.is c.submitted.ensures
+pub returns-in-Final : goal.returns-in-Final
+unfolding came book_after number_of is
+returns-in-Final c = rw (number c.in-Some.is c.in-Final.is) (c.final_number.ensures, refl)
 
-pub returns-in-10 : goal.returns-in-10
-unfolding came book_after is
-returns-in-10 c = rw c.in-10.is (c.eic_number.ensures, refl)
+pub returns-in-Message : goal.returns-in-Message
+unfolding came book_after number_of is
+returns-in-Message c = rw (number c.in-Some.is c.in-Message.is) c.submitted.ensures
 
-pub returns-in-11 : goal.returns-in-11
-unfolding came book_after is
-returns-in-11 c = rw c.in-11.is (ap (λ (q : QuantityRead). q.number) c.quantity_read.ensures, refl)
+pub returns-in-Eic : goal.returns-in-Eic
+unfolding came book_after number_of is
+returns-in-Eic c = rw (number c.in-Some.is c.in-Eic.is) (c.eic_number.ensures, refl)
 
-pub returns-in-13 : goal.returns-in-13
-unfolding came book_after is
-returns-in-13 c = rw c.in-13.is c.convert.ensures
+pub returns-in-Kw : goal.returns-in-Kw
+unfolding came book_after number_of is
+returns-in-Kw c = rw (number c.in-Some.is c.in-Kw.is) (ap (λ (q : QuantityRead). q.number) c.quantity_read.ensures, refl)
 
-pub returns-in-14 : goal.returns-in-14
-unfolding came book_after is
-returns-in-14 c = rw c.in-14.is c.entered.ensures
+pub returns-in-Convert : goal.returns-in-Convert
+unfolding came book_after number_of is
+returns-in-Convert c = rw (number c.in-Some.is c.in-Convert.is) c.convert.ensures
+
+pub returns-in-Right : goal.returns-in-Right
+unfolding came book_after number_of is
+returns-in-Right c = rw (number c.in-Some.is c.in-Right.is) c.entered.ensures
 
 pub returns-in_default : goal.returns-in_default
-unfolding came book_after
-returns-in_default c =
-    rw (is_other c.args.command 1 (omega arith), is_other c.args.command 2 (omega arith), is_other c.args.command 3 (omega arith), is_other c.args.command 5 (omega arith), is_other c.args.command 6 (omega arith), is_other c.args.command 9 (omega arith), is_other c.args.command 10 (omega arith), is_other c.args.command 11 (omega arith), is_other c.args.command 13 (omega arith), is_other c.args.command 14 (omega arith))
-    (c.check.ensures, refl)
+unfolding came book_after number_of is
+returns-in_default c = rw c.in_default.is (c.check.ensures, refl)
+
+pub returns-in-Mark : goal.returns-in-Mark
+unfolding came book_after number_of is
+returns-in-Mark c = elim c.in-Mark.is [
+  | inl h ↦ rw (number c.in-Some.is h) (c.check-in-Mark.ensures, refl)
+  | inr (inl h) ↦ rw (number c.in-Some.is h) (c.check-in-Mark.ensures, refl)
+  | inr (inr (inl h)) ↦ rw (number c.in-Some.is h) (c.check-in-Mark.ensures, refl)
+  | inr (inr (inr (inl h))) ↦ rw (number c.in-Some.is h) (c.check-in-Mark.ensures, refl)
+  | inr (inr (inr (inr h))) ↦ rw (number c.in-Some.is h) (c.check-in-Mark.ensures, refl)
+]

@@ -6,6 +6,3 @@ use Rattle.commission.proofs.table.cases.Given as goal
 
 abbrev pub invariant-loop-k : goal.invariant-loop-k
 invariant-loop-k g l = (length l.book ≡ length l.initial.book) × (rows_from (length l.table - l.k) l.right l.book (past_pieces 59 l.k l.table) ≡ table_run l.initial.book l.table)
-
-abbrev pub decreases-loop-k : goal.decreases-loop-k
-decreases-loop-k g l = length l.table - l.k

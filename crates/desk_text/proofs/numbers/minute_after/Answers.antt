@@ -3,10 +3,10 @@ use Rattle.laws.specs.Kit.{less_true, less_false}
 use Rattle.desk_text.specs.Numbers.{minute_after}
 use Rattle.desk_text.proofs.numbers.minute_after.Goals as goal
 
-pub returns-then-r-gt1500 : goal.returns-then-r-gt1500
+pub returns-then-x-gt1500 : goal.returns-then-x-gt1500
 unfolding minute_after
-returns-then-r-gt1500 c = rw (less_true _ _ c.if-r-gt1500.true)
+returns-then-x-gt1500 c = rw (less_true _ _ c.if-x-gt1500.true)
 
 pub returns : goal.returns
 unfolding minute_after
-returns c = rw (less_false _ _ c.if-r-gt1500.false)
+returns c = rw (less_false _ _ c.if-x-gt1500.false)

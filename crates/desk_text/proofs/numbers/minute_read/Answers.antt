@@ -1,18 +1,15 @@
--- The code asks whether a minus stands in front, as the definition does; an empty text has none.
-use Rattle.laws.specs.Kit.{ap, ◌∙◌, is_equal, is_other}
-use Rattle.laws.specs.Slices.{rest_slice}
-use Rattle.desk_text.specs.Numbers.{minute_read, minute_after, minute_before}
-use Rattle.desk_text.proofs.Digits.{no_minus}
+-- The code asks whether a minus stands in front, as the definition does.
+use Rattle.std.specs.Option.{option_map}
+use Rattle.laws.specs.Kit.{◌∙◌, ap}
+use Rattle.desk_text.specs.Numbers.{minute_before, minute_after}
+use Rattle.desk_text.proofs.Digits.{minus_read, plain_read, mapped}
 use Rattle.desk_text.proofs.numbers.minute_read.Goals as goal
 
-pub returns-then-s-eq0 : goal.returns-then-s-eq0
-unfolding minute_read
-returns-then-s-eq0 c = c.minute_after.ensures ∙ ap minute_after c.number_read.ensures ∙ rw (no_minus _ c.if-s-eq0.true)
+pub returns-in-Some : goal.returns-in-Some
+returns-in-Some c =
+    let p = c.in-Some.ensures.cases in
+    mapped minute_before _ _ c.map.ensures.cases ∙ ap (option_map minute_before) (rw p.1 at c.number_read.ensures) ∙ minus_read _ p.0
 
-pub returns-then-s-ne45 : goal.returns-then-s-ne45
-unfolding minute_read
-returns-then-s-ne45 c = c.minute_after-then-s-ne45.ensures ∙ ap minute_after c.number_read-then-s-ne45.ensures ∙ rw (is_other _ _ c.if-s-ne45.true)
-
-pub returns : goal.returns
-unfolding minute_read
-returns c = c.minute_before.ensures ∙ ap minute_before (rw rest_slice at c.number_read-2.ensures) ∙ rw (is_equal _ _ c.if-s-ne45.false)
+pub returns-in-None : goal.returns-in-None
+returns-in-None c =
+    mapped minute_after _ _ c.map-in-None.ensures.cases ∙ ap (option_map minute_after) c.number_read-in-None.ensures ∙ plain_read _ c.in-None.ensures.cases

@@ -1,14 +1,13 @@
--- The piece that starts at a place ends as many bytes behind it as it is long, and the byte that ends it is passed with it.
+-- The piece ends as many bytes behind its start as it is long, and the byte that ends it is passed with it.
+use Rattle.std.specs.Prelude.{◌+◌}
+use Rattle.laws.specs.Kit.{◌∙◌, ap, drop}
 use Rattle.laws.specs.Slices.{rest_slice}
-use Rattle.desk_text.specs.Words.{first_piece}
-use Rattle.desk_text.proofs.Laws.{past_piece_go, past_piece_end}
-use Rattle.std.proofs.Common.{rules}
+use Rattle.desk_text.specs.Words.{past_piece, first_piece}
+use Rattle.desk_text.proofs.Laws.{drop_inside}
 use Rattle.desk_text.proofs.words.past_piece.Goals as goal
 
-pub returns-then-s-at : goal.returns-then-s-at
-unfolding first_piece
-returns-then-s-at c = (search rules, past_piece_end _ _ _ _ (rw rest_slice at c.length_before-k.ensures.0) c.requires c.if-s-at.true)
-
 pub returns : goal.returns
-unfolding first_piece
-returns c = (search rules, past_piece_go _ _ _ _ (rw rest_slice at c.length_before-k.ensures.0))
+unfolding past_piece first_piece
+returns c =
+    let s = c.args.s.now in
+    rest_slice c.min.result s ∙ drop_inside _ _ s c.min.ensures ∙ ap (λ n. drop (n + 1) s) c.length_before-behind.ensures.0

@@ -1,16 +1,15 @@
--- The pieces still to pass, from the place reached, leave what all of them leave from the start.
-use Rattle.laws.specs.Kit.{refl}
+-- The pieces still to pass, of what is left, leave what all of them leave from the start.
+use Rattle.std.specs.Prelude.{◌≡◌, ◌-◌}
+use Rattle.laws.specs.Kit.{arith, ap}
+use Rattle.desk_text.specs.Words.{past_pieces}
 use Rattle.desk_text.proofs.Laws.{pieces_turn, pieces_end}
-use Rattle.std.proofs.Common.{rules}
 use Rattle.desk_text.proofs.words.past_pieces.Goals as goal
 
-pub loop-left-init : goal.loop-left-init
-loop-left-init c = (search rules, refl)
+pub loop-init : goal.loop-init
+loop-init c = let all : c.args.k - 0 ≡ c.args.k = omega arith in ap (λ n. past_pieces c.args.end n c.args.s.now) all
 
-pub loop-left-preserved : goal.loop-left-preserved
-loop-left-preserved c =
-    let p = c.past_piece-at.ensures in
-    (p.0, pieces_turn _ _ _ _ c.loop-left-test.true p.1 c.loop-left.invariant.1)
+pub loop-preserved : goal.loop-preserved
+loop-preserved c = pieces_turn _ _ _ _ _ c.loop-test.true c.past_piece-rest.ensures c.loop.invariant
 
 pub returns : goal.returns
-returns c = let v = c.loop-left.invariant in (v.0, pieces_end _ _ _ c.loop-left-test.false v.1)
+returns c = pieces_end _ _ _ _ c.loop-test.false c.loop.invariant

@@ -1,4 +1,4 @@
--- The sum fits into eight bytes and its remainder into four.
+-- Product and sum wrap: the remainder of a remainder is that of the whole.
 use Rattle.index.specs.Tags.{mixed}
 use Rattle.std.proofs.Common.{rules}
 use Rattle.index.proofs.tags.mixed.Goals as goal

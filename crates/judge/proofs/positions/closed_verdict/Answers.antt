@@ -1,31 +1,23 @@
 -- No position passed by is refused, and past the first open one none can be.
-use Rattle.laws.specs.Kit.{◌∙◌, arith}
-use Rattle.laws.specs.Order.Laws.{along_end, along_go, along_hit, along_start}
-use Rattle.paper.specs.Rules.{fine, over_positions}
-use Rattle.judge.proofs.Laws.Order.{closed_rest}
-use Rattle.laws.specs.Kit.{sym}
+use Rattle.std.proofs.Common.{rules}
+use Rattle.laws.specs.Kit.{◌∙◌, sym}
+use Rattle.paper.specs.Rules.{closed_verdict}
+use Rattle.judge.proofs.Laws.Order.{closed_rest, gives_by, gives_fine, positions_start, positions_go, positions_hit, positions_end}
 use Rattle.judge.proofs.positions.closed_verdict.Goals as goal
 
 pub loop-k-init : goal.loop-k-init
-unfolding over_positions
-loop-k-init c = (omega arith, along_start _ _ _ _)
-
-pub closed-requires : goal.closed-requires
-unfolding over_positions
-closed-requires c = (omega arith, omega arith)
+loop-k-init c = positions_start _
 
 pub returns-then-not-closed : goal.returns-then-not-closed
-unfolding over_positions
-returns-then-not-closed c = c.fine.ensures ∙ closed_rest _ _ _ _ _ c.loop-k.invariant.1 (sym c.closed.ensures ∙ c.if-not-closed.true)
+returns-then-not-closed c = gives_fine (sym (closed_rest _ _ _ _ _ c.loop-k.invariant (sym c.closed.ensures ∙ c.if-not-closed.true)))
 
-pub returns-then-v-ne0 : goal.returns-then-v-ne0
-unfolding over_positions
-returns-then-v-ne0 c = along_hit _ _ _ _ _ _ c.loop-k.invariant.1 c.loop-k-test.true c.closed_at-v.ensures c.if-v-ne0.true
+pub returns-in_err-broken : goal.returns-in_err-broken
+unfolding closed_verdict
+returns-in_err-broken c = positions_hit _ _ c.loop-k.invariant c.loop-k-test.true (gives_by 13 _ _ c.in_err-broken.ensures.gives c.rule_14.ensures) (search rules)
 
 pub loop-k-preserved : goal.loop-k-preserved
-unfolding over_positions
-loop-k-preserved c = (omega arith, along_go _ _ _ _ _ _ c.loop-k.invariant.1 c.loop-k-test.true c.closed_at-v.ensures c.if-v-ne0.false)
+unfolding closed_verdict
+loop-k-preserved c = positions_go _ _ c.loop-k.invariant c.loop-k-test.true (gives_by 13 _ _ c.in_ok-broken.ensures.gives c.rule_14.ensures)
 
 pub returns : goal.returns
-unfolding over_positions
-returns c = c.fine-2.ensures ∙ along_end _ _ _ _ _ c.loop-k.invariant.1 c.loop-k-test.false
+returns c = positions_end _ _ c.loop-k.invariant c.loop-k-test.false

@@ -1,21 +1,16 @@
 -- No position passed by is refused, so that the first that is decides, and the end too.
-use Rattle.laws.specs.Kit.{◌∙◌, arith}
-use Rattle.laws.specs.Order.Laws.{along_end, along_go, along_hit, along_start}
-use Rattle.paper.specs.Rules.{fine, over_positions}
+use Rattle.std.proofs.Common.{rules}
+use Rattle.judge.proofs.Laws.Order.{positions_start, positions_go, positions_hit, positions_end}
 use Rattle.judge.proofs.positions.first_refused.Goals as goal
 
 pub loop-k-init : goal.loop-k-init
-unfolding over_positions
-loop-k-init c = (omega arith, along_start _ _ _ _)
+loop-k-init c = positions_start _
 
-pub returns-then-v-ne0 : goal.returns-then-v-ne0
-unfolding over_positions
-returns-then-v-ne0 c = along_hit _ _ _ _ _ _ c.loop-k.invariant.1 c.loop-k-test.true c.quantity_at-v.ensures c.if-v-ne0.true
+pub returns-in_err-quantity_at : goal.returns-in_err-quantity_at
+returns-in_err-quantity_at c = positions_hit _ _ c.loop-k.invariant c.loop-k-test.true c.in_err-quantity_at.ensures (search rules)
 
 pub loop-k-preserved : goal.loop-k-preserved
-unfolding over_positions
-loop-k-preserved c = (omega arith, along_go _ _ _ _ _ _ c.loop-k.invariant.1 c.loop-k-test.true c.quantity_at-v.ensures c.if-v-ne0.false)
+loop-k-preserved c = positions_go _ _ c.loop-k.invariant c.loop-k-test.true c.in_ok-quantity_at.ensures
 
 pub returns : goal.returns
-unfolding over_positions
-returns c = c.fine.ensures ∙ along_end _ _ _ _ _ c.loop-k.invariant.1 c.loop-k-test.false
+returns c = positions_end _ _ c.loop-k.invariant c.loop-k-test.false

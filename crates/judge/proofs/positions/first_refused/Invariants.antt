@@ -1,10 +1,7 @@
-use Rattle.std.specs.Prelude.{◌-◌, ◌≡◌, ◌≤◌}
+use Rattle.std.specs.Prelude.{◌-◌, ◌≡◌}
 use Rattle.laws.specs.Order.{along}
-use Rattle.paper.specs.Rules.{fine, number_of, quantity_verdict}
+use Rattle.paper.specs.Rules.{fine, number_of, over_positions, quantity_verdict}
 use Rattle.judge.proofs.positions.first_refused.Given as goal
 
 abbrev pub invariant-loop-k : goal.invariant-loop-k
-invariant-loop-k l = (l.k ≤ 100) × (along number_of fine (quantity_verdict l.n l.s l.y) 100 0 ≡ along number_of fine (quantity_verdict l.n l.s l.y) (100 - l.k) l.k)
-
-abbrev pub decreases-loop-k : goal.decreases-loop-k
-decreases-loop-k l = 100 - l.k
+invariant-loop-k l = over_positions (quantity_verdict l.n l.s l.y) ≡ along number_of fine (quantity_verdict l.n l.s l.y) (100 - l.k) l.k

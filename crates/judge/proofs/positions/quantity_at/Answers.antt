@@ -1,10 +1,20 @@
--- The three rules are joined as the definition joins them.
+-- The three rules come in the definition's order.
+use Rattle.std.proofs.Common.{rules}
 use Rattle.paper.specs.Rules.{quantity_verdict}
-use Rattle.judge.proofs.Laws.Order.{broken_by_lem, then_two}
+use Rattle.judge.proofs.Laws.Order.{gives_by, gives_hit, gives_pass}
 use Rattle.judge.proofs.positions.quantity_at.Goals as goal
+
+pub returns-in_err-broken : goal.returns-in_err-broken
+unfolding quantity_verdict
+returns-in_err-broken c = gives_hit _ (gives_by 10 _ _ c.in_err-broken.ensures.gives c.rule_11.ensures) (search rules)
+
+pub returns-in_err-broken-2 : goal.returns-in_err-broken-2
+unfolding quantity_verdict
+returns-in_err-broken-2 c =
+    gives_pass (gives_by 10 _ _ c.in_ok-broken.ensures.gives c.rule_11.ensures) (gives_hit _ (gives_by 11 _ _ c.in_err-broken-2.ensures.gives c.rule_12.ensures) (search rules))
 
 pub returns : goal.returns
 unfolding quantity_verdict
 returns c =
-    then_two c.then-2.ensures (broken_by_lem _ _ _ c.broken-r11.ensures c.rule_11.ensures)
-    (then_two c.then.ensures (broken_by_lem _ _ _ c.broken-r12.ensures c.rule_12.ensures) (broken_by_lem _ _ _ c.broken-r13.ensures c.rule_13.ensures))
+    gives_pass (gives_by 10 _ _ c.in_ok-broken.ensures.gives c.rule_11.ensures)
+    (gives_pass (gives_by 11 _ _ c.in_ok-broken-2.ensures.gives c.rule_12.ensures) (gives_by 12 _ _ c.broken-3.ensures.gives c.rule_13.ensures))

@@ -1,10 +1,6 @@
-use Rattle.std.specs.Prelude.{◌≤◌, ◌-◌}
 use Rattle.laws.specs.Cut.{cut}
 use Rattle.judge.specs.Sums.{SumsTo, AtMost}
 use Rattle.judge.proofs.rights.sum_again.Given as goal
 
 abbrev pub invariant-loop-j : goal.invariant-loop-j
-invariant-loop-j l = (l.j ≤ l.count) × SumsTo l.rights (cut 512 l.series) l.right l.j l.sums × AtMost l.j l.sums
-
-abbrev pub decreases-loop-j : goal.decreases-loop-j
-decreases-loop-j l = l.count - l.j
+invariant-loop-j l = SumsTo l.rights (cut 512 l.series) l.right l.j l.sums × AtMost l.j l.sums

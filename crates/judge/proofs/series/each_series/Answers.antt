@@ -1,6 +1,7 @@
 -- No series passed by is refused, so that the first that is decides, and the end too; the sums are kept along the way.
-use Rattle.std.specs.Prelude.{◌≤◌}
-use Rattle.laws.specs.Kit.{◌∙◌, ap, arith, length, refl, is, ◌and◌}
+use Rattle.std.proofs.Common.{rules}
+use Rattle.std.specs.Prelude.{◌≡◌, ◌≤◌, Err}
+use Rattle.laws.specs.Kit.{ap, arith, length, refl, is, ◌and◌}
 use Rattle.laws.specs.Cut.Laws.{cut_length}
 use Rattle.laws.specs.Lists.{every}
 use Rattle.paper.specs.Layout.{zeros}
@@ -14,32 +15,32 @@ pub loop-i-init : goal.loop-i-init
 unfolding zeros every is ◌and◌
 loop-i-init c =
     let k : length (series_of c.args.message.now) ≤ 200 = c.requires.0.short in
-    (omega arith, omega (arith, cut_length 512 c.series_of-series.result.now, ap length c.series_of-series.ensures), refl, record { sum = λ n. absurd (n refl); most = most_zeros _ refl refl })
+    (omega (arith, cut_length 512 c.series_of-series.result.now, ap length c.series_of-series.ensures), refl, record { sum = λ n. absurd (n refl); most = most_zeros _ refl refl })
 
 pub sums_with-on-requires : goal.sums_with-on-requires
-sums_with-on-requires c = let l = c.loop-i in (omega arith, l.invariant.3)
+sums_with-on-requires c = let l = c.loop-i in (omega arith, l.invariant.2)
 
-pub returns-then-v-ne0 : goal.returns-then-v-ne0
+pub returns-in_err-series_verdict : goal.returns-in_err-series_verdict
 unfolding each_series_of
-returns-then-v-ne0 c =
+returns-in_err-series_verdict c =
     let e = c.series_of-series.ensures in
     let g = c.head_of-h.ensures in
+    let f : c.from_residual.result ≡ Err c.in_err-series_verdict.field-0.0 = search rules in
     rw (g, e) at
-    (each_hit _ _ _ _ _ _ _ c.loop-i.invariant.2 c.loop-i-test.true
-    (series_at_lem _ _ _ _ _ _ e g c.requires.0 c.requires.1 _ c.loop-i-test.true _ _ c.known_otherwise-otherwise.ensures (kept_for _ _ _ _ _ c.sums_with-on.ensures.0 c.sums_with-on.ensures.1) c.block_at.ensures c.series_verdict-v.ensures) c.if-v-ne0.true)
+    (each_hit _ _ _ _ _ _ c.loop-i.invariant.1 c.loop-i-test.true
+    (series_at_lem _ _ _ _ _ _ e g c.requires.0 c.requires.1 _ c.loop-i-test.true _ _ c.known_otherwise-otherwise.ensures (kept_for _ _ _ _ _ c.sums_with-on.ensures.0 c.sums_with-on.ensures.1) c.block_at.ensures c.in_err-series_verdict.ensures) f)
 
 pub loop-i-preserved : goal.loop-i-preserved
 loop-i-preserved c =
     let e = c.series_of-series.ensures in
     let g = c.head_of-h.ensures in (
-      omega arith,
-      omega arith,
-      each_go _ _ _ _ _ _ _ c.loop-i.invariant.2 c.loop-i-test.true
-          (series_at_lem _ _ _ _ _ _ e g c.requires.0 c.requires.1 _ c.loop-i-test.true _ _ c.known_otherwise-otherwise.ensures (kept_for _ _ _ _ _ c.sums_with-on.ensures.0 c.sums_with-on.ensures.1) c.block_at.ensures c.series_verdict-v.ensures) c.if-v-ne0.false,
+      c.loop-i.invariant.0,
+      each_go _ _ _ _ _ _ c.loop-i.invariant.1 c.loop-i-test.true
+          (series_at_lem _ _ _ _ _ _ e g c.requires.0 c.requires.1 _ c.loop-i-test.true _ _ c.known_otherwise-otherwise.ensures (kept_for _ _ _ _ _ c.sums_with-on.ensures.0 c.sums_with-on.ensures.1) c.block_at.ensures c.in_ok-series_verdict.ensures),
       c.sums_with-on.ensures.0,
     )
 
 pub returns : goal.returns
 unfolding each_series_of
 returns c =
-    rw (c.head_of-h.ensures, c.series_of-series.ensures) at (c.fine.ensures ∙ each_end _ _ _ _ _ _ c.loop-i.invariant.2 c.loop-i-test.false)
+    rw (c.head_of-h.ensures, c.series_of-series.ensures) at (each_end _ _ _ _ _ _ c.loop-i.invariant.1 c.loop-i-test.false)

@@ -1,13 +1,13 @@
 -- A refusal of form ends it.
+use Rattle.std.proofs.Common.{rules}
 use Rattle.judge.specs.Order.{series_by}
-use Rattle.judge.proofs.Laws.Order.{then_hit, then_pass}
+use Rattle.judge.proofs.Laws.Order.{gives_hit, gives_pass}
 use Rattle.judge.proofs.series.series_verdict.Goals as goal
 
-pub returns-then-form-ne0 : goal.returns-then-form-ne0
+pub returns-in_err-form_verdict : goal.returns-in_err-form_verdict
 unfolding series_by
-returns-then-form-ne0 c = then_hit _ c.form_verdict-form.ensures c.if-form-ne0.true
+returns-in_err-form_verdict c = gives_hit _ c.in_err-form_verdict.ensures (search rules)
 
 pub returns : goal.returns
 unfolding series_by
-returns c =
-    then_pass c.form_verdict-form.ensures c.if-form-ne0.false c.values_verdict.ensures
+returns c = gives_pass c.in_ok-form_verdict.ensures c.values_verdict.ensures

@@ -31,5 +31,4 @@ each_series-requires c =
     (c.requires.0, record { first_ids_found = rw e at c.look_up.ensures; first_keys_found = rw e at c.look_up-2.ensures; stored_ids_found = rw e at c.look_up-3.ensures; stored_keys = rw e at c.look_up-4.ensures; rights_held = rw (e, f) at c.look_up_rights.ensures })
 
 pub returns : goal.returns
-returns c =
-    record { verdict = c.each_series.ensures; stored = rw c.series_of-series.ensures at c.look_up-4.ensures }
+returns c = (c.each_series.ensures, rw c.series_of-series.ensures at c.look_up-4.ensures)

@@ -1,11 +1,8 @@
-use Rattle.std.specs.Prelude.{◌≡◌, ◌≤◌, ◌-◌}
+use Rattle.std.specs.Prelude.{◌≡◌}
 use Rattle.laws.specs.Kit.{length}
 use Rattle.laws.specs.Bytes.{written}
 use Rattle.layout.specs.Written.{entries}
 use Rattle.layout.proofs.write.write_entries.Given as goal
 
 abbrev pub invariant-loop-k : goal.invariant-loop-k
-invariant-loop-k l = (l.k ≤ 100) × (length l.b ≡ length l.initial.b) × (l.b ≡ written 108 (entries l.v l.k) l.initial.b)
-
-abbrev pub decreases-loop-k : goal.decreases-loop-k
-decreases-loop-k l = 100 - l.k
+invariant-loop-k l = (length l.b ≡ length l.initial.b) × (l.b ≡ written 108 (entries l.v l.k) l.initial.b)

@@ -1,11 +1,7 @@
-use Rattle.std.specs.Prelude.{◌≡◌, ◌≤◌, ◌-◌}
-use Rattle.laws.specs.Kit.{length, drop}
-use Rattle.message_words.specs.Words.{lines}
-use Rattle.message_text.specs.MessageText.{field_in}
+use Rattle.std.specs.Prelude.{◌≡◌}
+use Rattle.laws.specs.Kit.{drop}
+use Rattle.message_text.specs.Rows.{field_by}
 use Rattle.message_text.proofs.fill.field_in.Given as goal
 
-abbrev pub invariant-loop-at : goal.invariant-loop-at
-invariant-loop-at l = (l.at ≤ length l.table) × (field_in (lines (drop l.at l.table)) l.w ≡ field_in (lines l.table) l.w)
-
-abbrev pub decreases-loop-at : goal.decreases-loop-at
-decreases-loop-at l = length l.table - l.at
+abbrev pub invariant-loop-row : goal.invariant-loop-row
+invariant-loop-row l = field_by (drop l.row-index l.rows) l.w ≡ field_by l.rows l.w

@@ -5,6 +5,3 @@ use Rattle.message_text.proofs.fill.put_quantities.Given as goal
 
 abbrev pub invariant-loop-k : goal.invariant-loop-k
 invariant-loop-k l = (length l.block ≡ length l.initial.block) × (spread (l.last - l.k) l.k l.kilowatts l.block ≡ spread (l.last - l.start) l.start l.kilowatts l.initial.block)
-
-abbrev pub decreases-loop-k : goal.decreases-loop-k
-decreases-loop-k l = l.last - l.k

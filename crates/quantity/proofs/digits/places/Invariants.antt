@@ -4,6 +4,3 @@ use Rattle.quantity.proofs.digits.places.Given as goal
 
 abbrev pub invariant-loop-k : goal.invariant-loop-k
 invariant-loop-k l = (l.k ≤ l.most) × (l.k + places_by (l.most - l.k) l.rest ≡ places_by l.most l.x)
-
-abbrev pub decreases-loop-k : goal.decreases-loop-k
-decreases-loop-k l = l.most - l.k

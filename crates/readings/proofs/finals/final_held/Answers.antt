@@ -3,12 +3,12 @@ use Rattle.laws.specs.Kit.{◌∙◌, ◌and◌, is}
 use Rattle.readings.proofs.Laws.Held.{held_none, held_some}
 use Rattle.readings.proofs.finals.final_held.Goals as goal
 
-pub returns-then-sellers-buyers : goal.returns-then-sellers-buyers
+pub returns-then-eq : goal.returns-then-eq
 unfolding ◌and◌ is
-returns-then-sellers-buyers c =
-    c.final_refused.ensures ∙ held_none _ _ _ _ _ _ _ c.held-sellers.ensures c.held-buyers.ensures c.if-sellers-buyers.true
+returns-then-eq c =
+    c.final_refused.ensures ∙ held_none _ _ _ _ _ _ _ c.held-sellers.ensures c.held-buyers.ensures (rw (c.eq.ensures, c.eq-2.ensures) at c.if-eq.true)
 
 pub returns : goal.returns
 unfolding ◌and◌ is
 returns c =
-    rw (c.final_of.ensures, c.held_at-2.ensures, c.held_at.ensures) (held_some _ _ _ _ _ _ _ c.held-sellers.ensures c.held-buyers.ensures c.if-sellers-buyers.false)
+    rw (c.final_of.ensures, c.held_at-2.ensures, c.held_at.ensures) (held_some _ _ _ _ _ _ _ c.held-sellers.ensures c.held-buyers.ensures (rw (c.eq.ensures, c.eq-2.ensures) at c.if-eq.false))

@@ -1,20 +1,16 @@
--- Each refusal is the definition's, in its order.
-use Rattle.laws.specs.Kit.{◌∙◌}
-use Rattle.readings.proofs.Laws.Final.{no_position, above_n_lem, still_open, held_final}
-use Rattle.laws.specs.Kit.{sym}
+-- The index of the position, or why there is none, decides.
+use Rattle.laws.specs.Kit.{sym, ap, ◌∙◌}
+use Rattle.paper.specs.Finals.{final_refused}
+use Rattle.readings.proofs.Laws.Final.{final_by, final_by_index}
 use Rattle.readings.proofs.finals.final_in.Goals as goal
 
-pub returns-then-p-eq0 : goal.returns-then-p-eq0
-returns-then-p-eq0 c = c.final_refused.ensures ∙ no_position _ _ _ _ _ c.if-p-eq0.true
+pub final_held-requires : goal.final_held-requires
+final_held-requires c = c.in-Ok.ensures.1
 
-pub returns-then-n_of-p : goal.returns-then-n_of-p
-returns-then-n_of-p c =
-    c.final_refused-then-n_of-p.ensures ∙ above_n_lem _ _ _ _ _ c.if-p-eq0.false (rw c.n_of.ensures at c.if-n_of-p.true)
+pub returns-in-Ok : goal.returns-in-Ok
+returns-in-Ok c =
+    rw c.rule_of.ensures at c.final_held.ensures ∙ ap (final_by _ _ _ _) (sym c.in-Ok.is ∙ c.closed_index.ensures.0) ∙ final_by_index _ _ _ _ _
 
-pub returns-then-not-closed : goal.returns-then-not-closed
-returns-then-not-closed c =
-    c.final_refused-then-not-closed.ensures ∙ still_open _ _ _ _ _ c.if-p-eq0.false (rw c.n_of.ensures at c.if-n_of-p.false) (sym c.closed.ensures ∙ c.if-not-closed.true)
-
-pub returns : goal.returns
-returns c =
-    held_final _ _ _ _ _ c.if-p-eq0.false (rw c.n_of.ensures at c.if-n_of-p.false) (sym c.closed.ensures ∙ c.if-not-closed.false) (rw c.rule_of.ensures at c.final_held.ensures)
+pub returns-in-Err : goal.returns-in-Err
+returns-in-Err c =
+    c.final_refused.ensures ∙ ap final_refused c.number.ensures ∙ ap (final_by _ _ _ _) (sym c.in-Err.is ∙ c.closed_index.ensures.0) ∙ final_by_index _ _ _ _ _

@@ -1,13 +1,14 @@
 -- The branches are the definition's.
-use Rattle.laws.specs.Kit.{is_equal, is_other}
+use Rattle.laws.specs.Kit.{◌∙◌, is}
 use Rattle.paper.specs.Layout.{same_rule}
 use Rattle.paper.specs.Finals.{final_of}
+use Rattle.readings.proofs.Laws.Held.{lesser_min}
 use Rattle.readings.proofs.finals.final_of.Goals as goal
 
-pub returns-then-rule : goal.returns-then-rule
-unfolding final_of same_rule
-returns-then-rule c = rw (is_equal _ _ c.if-rule.true) c.lesser_of.ensures
+pub returns-then-eq : goal.returns-then-eq
+unfolding final_of same_rule is
+returns-then-eq c = rw (← c.if-eq.ensures) (c.min.ensures ∙ lesser_min _ _)
 
 pub returns : goal.returns
-unfolding final_of same_rule
-returns c = rw (is_other _ _ c.if-rule.false)
+unfolding final_of same_rule is
+returns c = rw (← c.if-eq.ensures)

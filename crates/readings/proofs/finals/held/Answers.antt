@@ -1,21 +1,15 @@
--- None of the blocks passed by is the one that is sought, so the first that is has its place.
-use Rattle.laws.specs.Kit.{arith, false, step_cut_at, end_cut, search_start, search_miss, search_place, search_end_place}
-use Rattle.paper.specs.Book.{slot_of, is_trade_of}
-use Rattle.slots.proofs.Laws.{found_so}
+-- The first block that passes the test has the place.
+use Rattle.std.proofs.Common.{rules}
+use Rattle.laws.specs.Kit.{arith, sym, ap, ◌∙◌}
+use Rattle.laws.specs.Chains.{place_found, blocks_road, placed}
 use Rattle.readings.proofs.finals.held.Goals as goal
 
-pub loop-i-init : goal.loop-i-init
-loop-i-init c = (omega arith, search_start _)
+pub returns-in-Some : goal.returns-in-Some
+returns-in-Some c =
+    rw (← c.slot_of-slot.ensures)
+    (sym (ap placed c.in-Some.is) ∙ place_found _ (blocks_road 512 _ (omega arith) c.chunks_exact.ensures.rest c.chunks_exact.ensures.size) (λ x b q k. search rules) c.position.ensures.ran)
 
-pub returns-then-is_trade_between : goal.returns-then-is_trade_between
-returns-then-is_trade_between c =
-    let slot = c.slot_of-slot.ensures in
-    search_place _ c.loop-i.invariant.1 (step_cut_at _ _ _ c.loop-i-test.true) (found_so (is_trade_of (slot_of _ _) _) c.block_at.ensures (rw slot at c.is_trade_between.ensures) c.if-is_trade_between.true)
-
-pub loop-i-preserved : goal.loop-i-preserved
-loop-i-preserved c =
-    let slot = c.slot_of-slot.ensures in
-    (omega arith, search_miss _ c.loop-i.invariant.1 (step_cut_at _ _ _ c.loop-i-test.true) (found_so (is_trade_of (slot_of _ _) _) c.block_at.ensures (rw slot at c.is_trade_between.ensures) c.if-is_trade_between.false))
-
-pub returns : goal.returns
-returns c = search_end_place _ c.loop-i.invariant.1 (end_cut _ _ _ c.loop-i-test.false)
+pub returns-in-None : goal.returns-in-None
+returns-in-None c =
+    rw (← c.slot_of-slot.ensures)
+    (sym (ap placed c.in-None.is) ∙ place_found _ (blocks_road 512 _ (omega arith) c.chunks_exact.ensures.rest c.chunks_exact.ensures.size) (λ x b q k. search rules) c.position.ensures.ran)

@@ -6,4 +6,4 @@ pub returns : goal.returns
 unfolding clock_told
 returns c =
     let k = c.clock-answer.ensures in
-    (rw k.0 at c.four.ensures, k.1)
+    (rw k.0 at c.«of».ensures, k.1)

@@ -4,4 +4,4 @@ use Rattle.replay_answers.proofs.day_calls.judge.Goals as goal
 
 pub returns : goal.returns
 unfolding verdict_told
-returns c = rw c.verdict-v.ensures at c.five.ensures
+returns c = rw c.verdict-v.ensures at c.«of».ensures

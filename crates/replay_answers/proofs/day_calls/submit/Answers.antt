@@ -6,4 +6,4 @@ pub returns : goal.returns
 unfolding submit_told verdict_told
 returns c =
     let a = c.submit-answer.ensures in
-    (rw a.0 at c.six.ensures, a.1)
+    (rw a.0 at c.«of».ensures, a.1)

@@ -1,10 +1,7 @@
-use Rattle.std.specs.Prelude.{◌≡◌, ◌≤◌, ◌-◌}
+use Rattle.std.specs.Prelude.{◌≡◌, ◌≤◌}
 use Rattle.laws.specs.Kit.{length, drop}
 use Rattle.paper.specs.Check.{check_from}
 use Rattle.replay_answers.proofs.message_calls.sum_on.Given as goal
 
-abbrev pub invariant-loop-i : goal.invariant-loop-i
-invariant-loop-i l = (l.i ≤ length l.series) × (check_from l.s (drop l.i l.series) ≡ check_from l.sum l.series)
-
-abbrev pub decreases-loop-i : goal.decreases-loop-i
-decreases-loop-i l = length l.series - l.i
+abbrev pub invariant-loop-x : goal.invariant-loop-x
+invariant-loop-x l = (l.x-index ≤ length l.series) × (check_from l.s (drop l.x-index l.series) ≡ check_from l.sum l.series)

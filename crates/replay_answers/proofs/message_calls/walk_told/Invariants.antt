@@ -1,9 +1,6 @@
-use Rattle.std.specs.Prelude.{◌≡◌, ◌≤◌, ◌<◌, ◌-◌}
+use Rattle.std.specs.Prelude.{◌≡◌, ◌<◌, ◌-◌}
 use Rattle.replay_answers.specs.Answers.{walk_on}
 use Rattle.replay_answers.proofs.message_calls.walk_told.Given as goal
 
 abbrev pub invariant-loop-count : goal.invariant-loop-count
-invariant-loop-count l = (l.count ≤ 200) × ((l.sum < 4294967296) × (walk_on (200 - l.count) l.read l.count l.sum ≡ walk_on 200 l.read 0 0))
-
-abbrev pub decreases-loop-count : goal.decreases-loop-count
-decreases-loop-count l = 200 - l.count
+invariant-loop-count l = (l.sum < 4294967296) × (walk_on (200 - l.count) l.read l.count l.sum ≡ walk_on 200 l.read 0 0)

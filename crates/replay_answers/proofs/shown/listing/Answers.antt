@@ -8,4 +8,4 @@ pub returns : goal.returns
 unfolding listing_line
 returns c =
     let l = c.listing-n.ensures in
-    rw (c.nothing.ensures, c.part_of.ensures, l.0, l.1, text_read_back _ _ (listing_most _)) at c.answer_with.ensures
+    rw (c.part_of.ensures, l.0, l.1, text_read_back _ _ (listing_most _)) at c.answer_with.ensures

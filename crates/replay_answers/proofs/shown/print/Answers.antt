@@ -13,4 +13,4 @@ pub returns : goal.returns
 unfolding print_line print_told
 returns c =
     rw (less_false _ _ c.if-body-lt4.false)
-    (rw (c.two.ensures, c.quantity_print-p.ensures.0, c.quantity_print-p.ensures.1, c.number_4-kilowatts.ensures, rest_slice 4 _) at c.answer_with.ensures)
+    (rw (c.quantity_print-p.ensures.0, c.quantity_print-p.ensures.1, c.number_4-kilowatts.ensures, rest_slice 4 _) at c.answer_with.ensures)

@@ -5,4 +5,4 @@ use Rattle.replay_answers.proofs.shown.reader.Goals as goal
 pub returns : goal.returns
 unfolding reader_line shown_block
 returns c =
-    rw (c.one.ensures, c.series_numbered-series.ensures, c.number_2.ensures, c.rest_from.ensures) at c.answer_with.ensures
+    rw (c.series_numbered-series.ensures, c.number_2.ensures, c.rest_from.ensures) at c.answer_with.ensures

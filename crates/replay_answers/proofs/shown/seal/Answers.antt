@@ -5,4 +5,4 @@ use Rattle.replay_answers.proofs.shown.seal.Goals as goal
 pub returns : goal.returns
 unfolding seal_line
 returns c =
-    rw (c.nothing.ensures, c.seal.ensures) at c.answer_with.ensures
+    rw (c.seal.ensures) at c.answer_with.ensures

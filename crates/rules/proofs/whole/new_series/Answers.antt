@@ -1,18 +1,17 @@
--- The first i places are counted.
-use Rattle.laws.specs.Kit.{arith, refl, at_end, take, is}
+-- The first places are counted, of which there are no more than a thousand.
+use Rattle.std.specs.Prelude.{◌≡◌, count_by}
+use Rattle.std.proofs.Common.{rules}
+use Rattle.std.proofs.iter.runs.Made.{chains}
+use Rattle.laws.specs.Kit.{arith, ◌∙◌, is, take, length-take}
 use Rattle.laws.specs.Lists.{count}
-use Rattle.rules.proofs.Laws.{count_one_more}
+use Rattle.laws.specs.Lists.Count.{count_length}
+use Rattle.rules.proofs.Laws.{counted}
 use Rattle.rules.proofs.whole.new_series.Goals as goal
 
-pub loop-i-init : goal.loop-i-init
-unfolding count
-loop-i-init c = (omega arith, omega arith, refl)
-
-pub loop-i-preserved : goal.loop-i-preserved
-unfolding is
-loop-i-preserved c =
-    (omega arith, omega arith, count_one_more (λ k. is k 0) c.args.places.now _ _ _ c.loop-i.invariant.2 c.one_if-n.ensures.0 (omega arith))
-
 pub returns : goal.returns
+unfolding is
 returns c =
-    (at_end (λ k. count (λ j. is j 0) (take k c.args.places.now)) c.loop-i.invariant.2 c.loop-i.invariant.0 c.loop-i-test.false, omega arith)
+    let l = take c.args.series c.args.places.now in
+    let e : c.count.result ≡ count_by (λ place. is place 0) l = search (rules, chains) in
+    let q : c.count.result ≡ count (λ place. is place 0) l = e ∙ counted (λ place. is place 0) l in
+    (q, omega (arith, q, count_length (λ place. is place 0) l, length-take c.args.series c.args.places.now))

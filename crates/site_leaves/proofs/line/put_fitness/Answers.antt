@@ -1,11 +1,11 @@
--- The piece that is put is the definition's case.
-use Rattle.laws.specs.Kit.{◌∙◌}
+-- Each text is the definition's.
 use Rattle.paper.specs.Listing.{text}
-use Rattle.desk_text.specs.Put.Laws.{called}
-use Rattle.site_leaves.proofs.Laws.{fitness_piece}
 use Rattle.site_leaves.proofs.line.put_fitness.Goals as goal
+
+pub returns-then-right : goal.returns-then-right
+unfolding text
+returns-then-right c = rw c.if-right.true c.put.ensures
 
 pub returns : goal.returns
 unfolding text
-returns c =
-    called _ (c.piece_numbered.ensures ∙ fitness_piece c.args.right) c.put.ensures
+returns c = rw c.if-right.false c.put-2.ensures

@@ -1,5 +1,5 @@
-use Rattle.std.specs.Prelude.{◌≡◌, ◌-◌, ◌/◌}
-use Rattle.laws.specs.Kit.{length, drop, ◌and◌}
+use Rattle.std.specs.Prelude.{◌≡◌}
+use Rattle.laws.specs.Kit.{drop, ◌and◌}
 use Rattle.laws.specs.Lists.{apart}
 use Rattle.laws.specs.Cut.{cut}
 use Rattle.sound.specs.Used.{clashes}
@@ -7,6 +7,3 @@ use Rattle.sound.proofs.apart.blocks_apart.Given as goal
 
 abbrev pub invariant-loop-i : goal.invariant-loop-i
 invariant-loop-i l = apart clashes (cut 512 l.us) ≡ (l.ok and apart clashes (drop l.i (cut 512 l.us)))
-
-abbrev pub decreases-loop-i : goal.decreases-loop-i
-decreases-loop-i l = length l.us / 512 - l.i

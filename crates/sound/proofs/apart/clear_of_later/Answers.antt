@@ -1,55 +1,31 @@
--- Between a block and the next of its group that could clash with it stand only blocks that cannot.
-use Rattle.laws.specs.Kit.{arith, refl, sym, ap₂, ◌∙◌}
+-- Of the blocks of its group behind it, the first that clashes is sought.
+use Rattle.laws.specs.Kit.{arith, ap, ◌∙◌, get_or, []}
+use Rattle.std.specs.Prelude.{◌≡◌, ◌+◌, ◌-◌, ◌/◌, ◌<◌, length}
+use Rattle.std.proofs.Common.{rules}
+use lib.Dec.{eqb}
+use Rattle.laws.specs.Cut.{cut}
 use Rattle.laws.specs.Cut.Laws.{cut_length}
-use Rattle.index.specs.Linked.Laws.{walk_next, walk_nearer, walk_inside}
+use Rattle.index.specs.Linked.Laws.{in_bucket, next_of}
 use Rattle.sound.specs.Used.{clashes}
-use Rattle.sound.specs.Links.{in_group}
-use Rattle.sound.proofs.Laws.Clear.{own_group, clearing, clear_go, clear_hit}
+use Rattle.sound.specs.Links.{group, in_group}
+use Rattle.sound.proofs.Laws.Clear.{own_group, clash_group, none_clashes}
+use Rattle.sound.proofs.Laws.Tags.{tag_at}
 use Rattle.sound.proofs.apart.clear_of_later.Goals as goal
 
-pub next_alike-at-requires : goal.next_alike-at-requires
-next_alike-at-requires c =
+pub find_from-requires : goal.find_from-requires
+find_from-requires c =
     let p = c.requires in
-    (p.0, p.1, p.2, p.3, walk_next in_group _ _ _ _ (clearing _) _ p.1 _ (rw (cut_length 512 _) p.3) (own_group _) c.wide.ensures refl)
-
-pub loop-at-init : goal.loop-at-init
-loop-at-init c = c.next_alike-at.ensures.0
-
-pub returns-then-clashes : goal.returns-then-clashes
-returns-then-clashes c =
-    let o = c.loop-at.invariant in
-    let n = c.loop-at-test.true in
-    clear_hit _ _ (o.rest n) (o.inside n) (c.clashes.ensures ∙ ap₂ clashes c.block_at.ensures c.block_at-in-loop-at.ensures) c.if-clashes.true
-
-pub offset_bounds-nexts-at : goal.offset_bounds-nexts-at
-offset_bounds-nexts-at c =
-    omega (arith, walk_inside _ c.requires.0 c.loop-at.invariant c.loop-at-test.true)
-
-pub bounds-nexts-at : goal.bounds-nexts-at
-bounds-nexts-at c =
-    walk_inside _ c.requires.0 c.loop-at.invariant c.loop-at-test.true
-
-pub next_alike-at-requires-in-loop-at : goal.next_alike-at-requires-in-loop-at
-next_alike-at-requires-in-loop-at c =
-    let p = c.requires in
-    let o = c.loop-at.invariant in
-    let n = c.loop-at-test.true in (
-      p.0,
-      p.1,
-      p.2,
-      p.3,
-      walk_next in_group _ _ _ _ (clearing _) _ p.1 _ (o.inside n) (o.linked n) c.wide-in-loop-at.ensures
-          (clear_go _ _ (o.rest n) (o.inside n) (c.clashes.ensures ∙ ap₂ clashes c.block_at.ensures c.block_at-in-loop-at.ensures) c.if-clashes.false),
-    )
-
-pub loop-at-smaller : goal.loop-at-smaller
-loop-at-smaller c =
-    let p = c.requires in
-    let nearer = walk_nearer in_group _ _ _ _ (clearing _) _ p.1 p.0 c.loop-at.invariant c.loop-at-test.true c.wide-in-loop-at.ensures in
-    omega (arith, nearer, c.next_alike-at-in-loop-at.ensures.1)
-
-pub loop-at-preserved : goal.loop-at-preserved
-loop-at-preserved c = c.next_alike-at-in-loop-at.ensures.0
+    (c.next-next.ensures.1, λ j h. let t = tag_at c.args.us.now (length c.args.us.now / 512) c.args.tags.now p.1 c.args.i p.3 (record { id = 0; key = 0 }) in search rules)
 
 pub returns : goal.returns
-returns c = sym (c.loop-at.invariant.last c.loop-at-test.false)
+returns c =
+    let p = c.requires in
+    let l = cut 512 c.args.us.now in
+    let a = get_or l c.args.i [] in
+    let i : c.args.i + 1 - 1 ≡ c.args.i = omega arith in
+    let first = rw i at c.next-next.ensures.0 in
+    ap (λ n. eqb n 0)
+    (c.find_from.ensures.0 l (in_group (group a)) (clashes a) (c.args.i + 1)
+    (in_bucket in_group l _ _ p.0 _ (clashes a) _ _ (clash_group a) (λ j b h k. let w : j < length c.args.us.now / 512 = rw (cut_length 512 _) at h in search rules))
+    (first ∙ next_of in_group l _ _ p.0 _ _ (rw (cut_length 512 _) p.3) (own_group a)))
+    ∙ none_clashes _ _ _

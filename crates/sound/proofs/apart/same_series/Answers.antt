@@ -11,6 +11,7 @@ returns c =
       c.same.ensures,
       c.id_of-2.ensures,
       c.id_of.ensures,
+      c.eq.ensures,
       c.senders_slot-2.ensures,
       c.senders_slot.ensures,
       c.is_series-2.ensures,

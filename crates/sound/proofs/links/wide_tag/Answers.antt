@@ -1,8 +1,8 @@
--- The sum of two tags fits into eight bytes and its remainder into four.
+-- The two tags are those of the definition, and their sum wraps as it does there.
 use Rattle.sound.specs.Links.{wide_tag}
 use Rattle.sound.proofs.links.wide_tag.Goals as goal
 
 pub returns : goal.returns
 unfolding wide_tag
 returns c =
-    simp (c.key_tag_of.ensures, c.parties_and_agreement.ensures, c.pair_tag_of-areas_tag.ensures, c.areas.ensures)
+    simp (c.key_tag_of.ensures, c.parties_and_agreement.ensures, c.pair_tag_of.ensures, c.areas.ensures)

@@ -1,14 +1,26 @@
--- What is set to 0 from the next byte on still gives the whole.
-use Rattle.laws.specs.Kit.{refl, sym, ◌∙◌}
-use Rattle.stream.specs.Buffer.Laws.{clear_more, clear_end}
-use Rattle.std.proofs.Common.{rules}
+-- What is set to 0 stands between what was before and behind it.
+use Rattle.std.specs.Prelude.{◌≡◌, ◌++◌, ◌+◌, ◌-◌, ◌≤◌, ℕ}
+use Rattle.laws.specs.Kit.{arith, sym, ◌∙◌, append_assoc, List, length, take, drop, replicate, length-take, length-drop, drop-drop}
+use Rattle.std.proofs.lemmas.List.{length-replicate}
+use Rattle.laws.specs.Bytes.{written}
+use Rattle.laws.specs.Bytes.Laws.{written_none, written_take_drop}
 use Rattle.stream.proofs.buffer.clear.Goals as goal
 
-pub loop-i-init : goal.loop-i-init
-loop-i-init c = (refl, refl)
+-- n bytes of b, from o on, lent and back as zeros
+filled : (o n : ℕ) (b y : List ℕ) → o + n ≤ length b → y ≡ replicate (length (take n (drop o b))) 0
+    → take o b ++ (y ++ drop n (drop o b)) ≡ written o (replicate n 0) b
+filled o n b y h e =
+    let k : length (take n (drop o b)) ≡ n = simp (length-take, length-drop) (omega arith) in
+    let w : length (replicate {A = ℕ} n 0) ≡ n = length-replicate n 0 in
+    rw (e, k, drop-drop n o b) (sym (append_assoc (take o b) (replicate n 0) (drop (o + n) b)) ∙ sym (rw w at (written_take_drop o (replicate n 0) b (omega arith))))
 
-pub loop-i-preserved : goal.loop-i-preserved
-loop-i-preserved c = (search rules, clear_more _ _ _ c.loop-i-test.true ∙ c.loop-i.invariant.1)
+pub returns-then-from-end : goal.returns-then-from-end
+returns-then-from-end c =
+    let a = c.args in
+    filled a.from (a.end - a.from) a.buffer.now c.fill.new.self (omega arith) (c.fill.ensures.after (λ y e. e))
 
-pub returns : goal.returns
-returns c = sym (clear_end _ _ _ c.loop-i-test.false) ∙ c.loop-i.invariant.1
+pub returns-else-from-end : goal.returns-else-from-end
+returns-else-from-end c =
+    let a = c.args in
+    let z : a.end - a.from ≡ 0 = omega arith in
+    rw z (sym (written_none a.from a.buffer.now))

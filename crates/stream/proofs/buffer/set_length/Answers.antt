@@ -5,9 +5,9 @@ use Rattle.stream.proofs.buffer.set_length.Goals as goal
 
 pub returns-then-buffer-new : goal.returns-then-buffer-new
 unfolding length_numbers length_after
-returns-then-buffer-new c = rw (upto_false _ _ c.if-buffer-new.true) (c.nothing.ensures, refl)
+returns-then-buffer-new c = rw (upto_false _ _ c.if-buffer-new.true) (refl, refl)
 
 pub returns : goal.returns
 unfolding length_numbers length_after
 returns c =
-    rw (upto_true _ _ c.if-buffer-new.false) (c.one.ensures, c.clear.ensures)
+    rw (upto_true _ _ c.if-buffer-new.false) (c.«of».ensures, c.clear.ensures)

@@ -1,6 +1,7 @@
 -- Each way out is a clause of the definition's test; past them all the name ends inside the body.
-use Rattle.std.specs.Prelude.{◌≡◌, ◌≤◌, ◌<◌, ◌+◌}
-use Rattle.laws.specs.Kit.{arith, true, ℕ, List, length, ◌or◌, less, upto, or_no, or_yes_left, or_yes_right, less_true, less_false, upto_true, upto_false}
+use Rattle.std.specs.Prelude.{◌≡◌, ◌≤◌, ◌<◌, ◌+◌, ◌-◌}
+use Rattle.laws.specs.Kit.{arith, split, true, false, ℕ, List, length, ◌or◌, less, upto, or_no, or_left, or_else, or_yes_left, or_yes_right, less_false, less_no, upto_true, upto_false, upto_yes}
+use Rattle.laws.specs.Tests.Laws.{or_right, upto_no}
 use Rattle.laws.specs.Bytes.{number}
 use Rattle.stream.specs.Fields.{name_end}
 use Rattle.stream.proofs.fields.name_end.Goals as goal
@@ -10,19 +11,29 @@ module _ (body : List ℕ) (at : ℕ) where
   unfolding name_end
   none e = rw e
 
-  some : (n : ℕ) → n ≡ number 1 at body → at < length body → n ≤ 64 → at + n < length body → at + 1 + n ≡ name_end body at
-  unfolding name_end
-  some n q h k m = rw (or_no _ _ (or_no _ _ (upto_false _ _ h) (less_false 64 (number 1 at body) (rw q at k))) (upto_false _ _ (rw q at m))) (rw q)
+  module _ (n room : ℕ) (q : n ≡ number 1 at body) (h : at ≤ length body) (r : room ≡ length body - at) where
+    out : (less 64 n or upto room n) ≡ true → 18446744073709551615 ≡ name_end body at
+    out e = none (split (less 64 n)
+        (λ t. or_yes_left _ _ (or_yes_right _ _ (rw q at t)))
+        (λ t. or_yes_right _ _ (upto_true _ _ (let k : room ≤ n = upto_yes room n (or_else (less 64 n) (upto room n) e t) in omega arith))))
 
-pub returns-then-body-at : goal.returns-then-body-at
-returns-then-body-at c = none _ _ (or_yes_left _ _ (or_yes_left _ _ (upto_true _ _ c.if-body-at.true)))
+    some : (less 64 n or upto room n) ≡ false → at + 1 + n ≡ name_end body at
+    unfolding name_end
+    some e =
+        let k : n < room = upto_no room n (or_right (less 64 n) (upto room n) e) in
+        let j : at < length body = omega arith in
+        let i : n ≤ 64 = less_no 64 n (or_left (less 64 n) (upto room n) e) in
+        rw (or_no _ _ (or_no _ _ (upto_false (length body) at j) (less_false 64 (number 1 at body) (rw q at i))) (upto_false (length body) (at + number 1 at body) (omega arith))) (rw q)
 
-pub returns-then-n-gt64 : goal.returns-then-n-gt64
-returns-then-n-gt64 c = none _ _ (or_yes_left _ _ (or_yes_right _ _ (less_true _ _ (rw c.byte_or_zero-n.ensures at c.if-n-gt64.true))))
+pub returns-in_err-checked_sub : goal.returns-in_err-checked_sub
+returns-in_err-checked_sub c =
+    let h : c.args.at ≤ length c.args.body.now → ⊥ = c.in_err-checked_sub.ensures in
+    rw c.from_residual.ensures (none _ _ (or_yes_left _ _ (or_yes_left _ _ (upto_true _ _ (omega arith)))))
 
-pub returns-then-body-at-2 : goal.returns-then-body-at-2
-returns-then-body-at-2 c = none _ _ (or_yes_right _ _ (upto_true _ _ (let n = c.byte_or_zero-n.ensures in omega (arith, c.if-body-at-2.true))))
+pub returns-then-branch-n : goal.returns-then-branch-n
+unfolding ◌or◌ less upto
+returns-then-branch-n c = let k = c.in_ok-checked_sub.ensures in out _ _ _ _ c.byte_or_zero-n.ensures k.0 k.1 c.if-branch-n.true
 
 pub returns : goal.returns
-returns c =
-    some _ _ _ c.byte_or_zero-n.ensures (omega (arith, c.if-body-at.false)) (omega (arith, c.if-n-gt64.false)) (omega (arith, c.if-body-at-2.false, c.if-body-at.false))
+unfolding ◌or◌ less upto
+returns c = let k = c.in_ok-checked_sub.ensures in some _ _ _ _ c.byte_or_zero-n.ensures k.0 k.1 c.if-branch-n.false

@@ -1,17 +1,18 @@
--- The code asks the definition's question, of the numbers that are told.
-use Rattle.laws.specs.Kit.{arith, is_equal, is_other}
+-- What is told is at least one number; a malformed record has no line.
+use Rattle.std.specs.Prelude.{◌≡◌, ◌<◌}
+use Rattle.laws.specs.Kit.{arith, length, is, is_other}
 use Rattle.desk_text.specs.Put.Laws.{none}
+use Rattle.stream.specs.Told.{numbers_of}
 use Rattle.stream.specs.Line.{told_line}
 use Rattle.stream.proofs.line.answer.Goals as goal
 
-pub returns-then-first_numbers-eq0 : goal.returns-then-first_numbers-eq0
-unfolding told_line
-returns-then-first_numbers-eq0 c =
-    let empty = rw c.first_numbers.ensures at c.if-first_numbers-eq0.true in
-    rw (is_equal _ _ empty) (none 0 _ (omega arith))
+pub returns-in_err-told : goal.returns-in_err-told
+unfolding told_line is
+returns-in_err-told c = rw (c.from_residual.ensures, c.in_err-told.was) (none 0 _ (omega arith))
 
 pub returns : goal.returns
 unfolding told_line
 returns c =
-    let some = rw c.first_numbers.ensures at c.if-first_numbers-eq0.false in
-    rw (is_other _ _ some) c.answer_with.ensures
+    let t = c.in_ok-told.told in
+    let some : length (numbers_of t) ≡ 0 → ⊥ = let h : 0 < length (numbers_of t) = rw c.numbers.ensures.0 at c.numbers.ensures.1 in λ e. omega arith in
+    rw (c.in_ok-told.was, is_other _ _ some) (rw c.numbers.ensures.0 at c.answer_with.ensures)

@@ -1,7 +1,0 @@
--- The room is lent whole: it has as many bytes as it was made with, which a law says without counting them.
-use Rattle.std.proofs.Common.{ℕ, sym}
-use Rattle.std.proofs.lemmas.List.{length-replicate}
-use Rattle.desk_files.proofs.change_beside.Goals as goal
-
-pub slice_bounds-change_in-end : goal.slice_bounds-change_in-end
-slice_bounds-change_in-end g c = sym (length-replicate {A = ℕ} _ 0)

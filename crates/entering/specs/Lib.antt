@@ -1,0 +1,2 @@
+-- What the code hands down inside a call.
+pub mod Numbers
