@@ -31,7 +31,7 @@ fn take(
     let used = within(length, book);
     if head.tag == Tag::Bytes {
         let told = buffer::set_bytes(input, &mut book[..used], head.length)?;
-        let k = line::answer(line, head.tag, Some(told));
+        let k = line::answer(line, head.tag as u8, Some(told));
         shown(rt, line, k)?;
         return Ok(length);
     }
@@ -40,14 +40,14 @@ fn take(
         let new = number_4(body, 0) as usize;
         let k = line::answer(
             line,
-            head.tag,
+            head.tag as u8,
             stream::buffer::set_length(book, length, new),
         );
         shown(rt, line, k)?;
         return Ok(new);
     }
     let book = &mut book[..used];
-    let k = replay_answers::answer(head.tag, book, body, line);
+    let k = replay_answers::answer(head.tag as u8, book, body, line);
     shown(rt, line, k)?;
     if head.tag == Tag::Book {
         buffer::show_rows(rt, book, line);

@@ -9,9 +9,11 @@ mod names;
 pub mod reading_calls;
 pub mod shown;
 
-ghost use Rattle.std.specs.Prelude.{◌≡◌, unwrap_or};
-ghost use Rattle.stream.specs.Told.{told_of};
+ghost use Rattle.std.specs.Prelude.{◌≡◌, false, unwrap_or};
+ghost use Rattle.paper.specs.Layout.{Bytes};
+ghost use Rattle.stream.specs.Told.{numbers_of, told_of};
 ghost use Rattle.stream.specs.Tags.{number_of};
+ghost use Rattle.stream.specs.Records.{known};
 ghost use Rattle.desk_text.specs.Put.{Put};
 ghost use Rattle.replay_answers.specs.Answers.{numbers_told, line_of, book_after};
 
@@ -49,17 +51,31 @@ fn numbers(tag: Tag, book: &mut [u8], body: &[u8]) -> Option<Told>
     }
 }
 
-// How many bytes of the buffer the line has; a malformed record has none.
-pub fn answer(tag: Tag, book: &mut [u8], body: &mut [u8], line: &mut [u8]) -> Option<usize>
-    ensures { Put 0 (line_of (number_of tag) book.old body.old) (unwrap_or result 0) line.old line.new
-        × (book.new ≡ book_after (number_of tag) book.old body.old) }
+// What is told of a byte that is no tag: of 0 what `sum` tells, of any other what `sound` does.
+fn told_of_none(tag: u8, book: &[u8]) -> Told
+    requires { known tag ≡ false }
+    ensures { (body : Bytes) → numbers_of result ≡ numbers_told tag book.now body }
 {
-    match tag {
+    if tag == 0 {
+        buffer::sum_told(book)
+    } else {
+        reading_calls::sound(book)
+    }
+}
+
+// How many bytes of the buffer the line has; a malformed record has none. The line of a byte that is no tag, which `next_head` refuses, has no word.
+pub fn answer(tag: u8, book: &mut [u8], body: &mut [u8], line: &mut [u8]) -> Option<usize>
+    ensures { Put 0 (line_of tag book.old body.old) (unwrap_or result 0) line.old line.new × (book.new ≡ book_after tag book.old body.old) }
+{
+    let Ok(call) = Tag::try_from(tag) else {
+        return line::answer(line, tag, Some(told_of_none(tag, book)));
+    };
+    match call {
         Tag::Block => shown::accepted_block(book, body, line),
         Tag::Reader => Some(shown::reader(body, line)),
         Tag::Listing => Some(shown::listing(book, line)),
         Tag::Print => shown::print(body, line),
         Tag::Seal => Some(shown::seal(body, line)),
-        _ => line::answer(line, tag, numbers(tag, book, body)),
+        _ => line::answer(line, tag, numbers(call, book, body)),
     }
 }

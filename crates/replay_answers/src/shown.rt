@@ -17,7 +17,7 @@ pub fn accepted_block(book: &[u8], body: &[u8], line: &mut [u8]) -> Option<usize
 {
     let (sender, id) = two_names(body)?;
     let block = readings::accepted_block(book, sender, id);
-    Some(answer_with(line, Tag::Block, &[block.len()], block))
+    Some(answer_with(line, Tag::Block as u8, &[block.len()], block))
 }
 
 // Two bytes of the series' number, then the message.
@@ -25,7 +25,7 @@ pub fn reader(body: &[u8], line: &mut [u8]) -> usize
     ensures { Put 0 (reader_line body.now) result line.old line.new }
 {
     let series = series_numbered(rest_from(body, 2), number_2(body, 0) as usize);
-    answer_with(line, Tag::Reader, &[series.len()], series)
+    answer_with(line, Tag::Reader as u8, &[series.len()], series)
 }
 
 // The buffer is never too short (listing_text, specs/Bound).
@@ -34,7 +34,7 @@ pub fn listing(book: &[u8], line: &mut [u8]) -> usize
 {
     let mut text = [0u8; 5591];
     let n = listing_text::listing(book, &mut text);
-    answer_with(line, Tag::Listing, &[], part_of(&text, 0, n))
+    answer_with(line, Tag::Listing as u8, &[], part_of(&text, 0, n))
 }
 
 // Four bytes of quantity, then the buffer to print into.
@@ -47,12 +47,17 @@ pub fn print(body: &mut [u8], line: &mut [u8]) -> Option<usize>
     let kilowatts = number_4(body, 0);
     let buffer = &mut body[4..];
     let p = quantity::quantity_print(kilowatts, buffer);
-    Some(answer_with(line, Tag::Print, &[p.number as usize, p.length], buffer))
+    Some(answer_with(
+        line,
+        Tag::Print as u8,
+        &[p.number as usize, p.length],
+        buffer,
+    ))
 }
 
 pub fn seal(block: &mut [u8], line: &mut [u8]) -> usize
     ensures { Put 0 (seal_line block.old) result line.old line.new }
 {
     block::check::seal(block);
-    answer_with(line, Tag::Seal, &[], block)
+    answer_with(line, Tag::Seal as u8, &[], block)
 }

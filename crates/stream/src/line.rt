@@ -4,7 +4,6 @@ ghost use Rattle.std.specs.Prelude.{◌≡◌, ◌≤◌, ◌<◌, length, unwra
 ghost use Rattle.paper.specs.Layout.{Bytes};
 ghost use Rattle.desk_text.specs.Put.{Put};
 ghost use Rattle.stream.specs.Told.{told_of};
-ghost use Rattle.stream.specs.Tags.{number_of};
 ghost use Rattle.stream.specs.Line.{PutsEach, pieces, spaced, numbers_text, hex_digit, hex_byte, hex_text, bytes_text, answer_line, hex_line, word_of, told_line};
 
 use crate::tag::Tag;
@@ -86,16 +85,26 @@ fn put_answer(line: &mut [u8], word: &[u8], numbers: &[usize], bytes: &[u8]) -> 
     put(line, at, b"\n")
 }
 
-// Behind the word of its tag.
-pub fn answer_with(line: &mut [u8], tag: Tag, numbers: &[usize], bytes: &[u8]) -> usize
-    ensures { Put 0 (answer_line (word_of (number_of tag)) numbers.now bytes.now) result line.old line.new }
+// The word of its tag; a byte that is none has no word.
+fn word_of(tag: u8) -> &'static [u8]
+    ensures { result.now ≡ word_of tag }
 {
-    put_answer(line, tag.word(), numbers, bytes)
+    match Tag::try_from(tag) {
+        Ok(tag) => tag.word(),
+        Err(_) => b"",
+    }
+}
+
+// Behind the word of its tag.
+pub fn answer_with(line: &mut [u8], tag: u8, numbers: &[usize], bytes: &[u8]) -> usize
+    ensures { Put 0 (answer_line (word_of tag) numbers.now bytes.now) result line.old line.new }
+{
+    put_answer(line, word_of(tag), numbers, bytes)
 }
 
 // Most answers show no bytes. A malformed record has no line.
-pub fn answer(line: &mut [u8], tag: Tag, told: Option<Told>) -> Option<usize>
-    ensures { Put 0 (told_line (number_of tag) (told_of told)) (unwrap_or result 0) line.old line.new }
+pub fn answer(line: &mut [u8], tag: u8, told: Option<Told>) -> Option<usize>
+    ensures { Put 0 (told_line tag (told_of told)) (unwrap_or result 0) line.old line.new }
 {
     let told = told?;
     Some(answer_with(line, tag, told.numbers(), b""))

@@ -1,22 +1,25 @@
--- Names that are none, the walk over a message turn by turn, and the text of a listing in a buffer that has room for it.
+-- Names that are none, bytes that are no tag, the walk over a message turn by turn, and the text of a listing in a buffer that has room for it.
 use Rattle.std.specs.Prelude.{◌≡◌, Bool, true, false, [], ◌∷◌, ℕ, suc, ◌+◌, ◌-◌, ◌≤◌, ◌<◌, length}
 use Rattle.std.specs.Int.{from_bool}
-use Rattle.std.proofs.Common.{refl, arith}
+use Rattle.std.proofs.Common.{refl, ⊎_elim, arith}
 use Rattle.laws.specs.Bytes.{part}
 use Rattle.laws.specs.Bytes.Laws.{part_written_same}
 use Rattle.laws.specs.Slices.{part_past}
-use Rattle.laws.specs.Tests.{is}
-use Rattle.laws.specs.Tests.Laws.{is_other, less_false, or_yes_left, upto_true}
+use Rattle.laws.specs.Tests.{◌and◌, ◌or◌, is, less}
+use Rattle.laws.specs.Tests.Laws.{is_other, less_true, less_false, or_yes_left, upto_true}
 use Rattle.stream.specs.declared.tag.Tag.{Tag}
 use Rattle.stream.specs.declared.tag.Tag.TheVariants.{Length, Bytes as SetBytes, Book, Sum, Open, Clock, Submit, Mark, Block, Final, Plain, Reader, Walk, Listing, Sound, Eic, Id, Read, Print, Check, Seal, Code, Judge, OpenBy, Convert, Right, Settled}
 use Rattle.stream.specs.Tags.{number_of}
+use Rattle.stream.specs.Records.{known}
+use Rattle.stream.specs.Records.Laws.{unknown_tag}
 use Rattle.stream.specs.Line.{told_line}
 use Rattle.stream.specs.Fields.{name_end, rest_from}
 use Rattle.paper.specs.Layout.{Bytes}
 use Rattle.paper.specs.Check.{check_from}
+use Rattle.paper.specs.Sound.{sound}
 use Rattle.reader.specs.Walk.{series_at}
 use Rattle.listing_text.specs.Text.{text_length, text_into}
-use Rattle.replay_answers.specs.Answers.{yes_or_no, numbers_told, line_of, walk_on}
+use Rattle.replay_answers.specs.Answers.{yes_or_no, reading_numbers, may_change, reads, numbers_told, line_of, book_after, walk_on}
 
 -- ---- yes and no as numbers
 
@@ -70,6 +73,32 @@ plain_line OpenBy book body a b l p s = refl
 plain_line Convert book body a b l p s = refl
 plain_line Right book body a b l p s = refl
 plain_line Settled book body a b l p s = refl
+
+-- ---- a byte that is no tag
+
+module _ (n : ℕ) (book body : Bytes) where
+  behind_line : 28 ≤ n → line_of n book body ≡ told_line n (numbers_told n book body)
+  unfolding line_of
+  behind_line h = rw (is_other n 9 (λ e. omega arith), is_other n 12 (λ e. omega arith), is_other n 14 (λ e. omega arith), is_other n 19 (λ e. omega arith), is_other n 21 (λ e. omega arith))
+
+  behind_book : 28 ≤ n → book_after n book body ≡ book
+  unfolding book_after may_change ◌and◌ ◌or◌
+  behind_book h = rw (less_false n 5 (omega arith), less_false n 8 (omega arith), less_true 23 n (omega arith), less_false n 27 (omega arith))
+
+  -- it is told what `sound` is
+  pub behind_told : 28 ≤ n → numbers_told n book body ≡ yes_or_no (sound book) ∷ []
+  unfolding numbers_told may_change reads reading_numbers ◌and◌ ◌or◌
+  behind_told h =
+      rw (less_false n 5 (omega arith), less_false n 8 (omega arith), less_true 23 n (omega arith), less_false n 27 (omega arith), less_false n 16 (omega arith), less_true 26 n (omega arith))
+      (rw (is_other n 8 (λ e. omega arith), is_other n 10 (λ e. omega arith), is_other n 11 (λ e. omega arith), is_other n 13 (λ e. omega arith), is_other n 27 (λ e. omega arith)))
+
+  pub none_line : known n ≡ false → line_of n book body ≡ told_line n (numbers_told n book body)
+  unfolding line_of is
+  none_line h = ⊎_elim (λ e. rw e refl) (λ l. behind_line l) (unknown_tag n h)
+
+  pub none_book : known n ≡ false → book_after n book body ≡ book
+  unfolding book_after less
+  none_book h = ⊎_elim (λ e. rw e refl) (λ l. behind_book l) (unknown_tag n h)
 
 -- ---- a walk and a listing
 
