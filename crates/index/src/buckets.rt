@@ -3,33 +3,34 @@ ghost use Rattle.std.specs.Prelude.{◌≡◌, Bool, List, ℕ, ◌-◌, ◌/◌
 ghost use Rattle.std.specs.Fn.{FnReturnsAt};
 ghost use Rattle.laws.specs.Lists.{count};
 ghost use Rattle.paper.specs.Layout.{Block};
-ghost use Rattle.index.specs.Ahead.{Ahead};
+ghost use Rattle.index.specs.Ahead.{Ends, AllEnd};
 ghost use Rattle.index.specs.Linked.{Links, Named, LinkedAs, Finds, FindsIn};
 
 use slots::block_at;
 
 // Of each bucket the place of the first block, and of each block the place of the next of its bucket. Places are counted from 1, and 0 says that there is none, as
-// what is found is kept and promised. The next stands always further on, so that every walk along a bucket ends.
+// what is found is kept and promised. Of a bucket the next stands always further on, so that every walk along one ends:
+// so it is in all rows that link at most 1,000 blocks (`links_end`).
 #[derive(Clone, Copy)]
 pub struct Buckets {
     pub heads: [u16; 1024],
     pub nexts: [u16; 1000],
-    pub ghost ahead: { Ahead heads nexts },
+    pub ghost ends: { AllEnd heads nexts },
 }
 
 impl Buckets {
     // The place of the first block of a bucket.
     pub fn first(&self, bucket: usize) -> usize
         requires { bucket < 1024 }
-        ensures { (result ≡ get_or self.now.heads bucket 0) × (result ≤ 1000) }
+        ensures { (result ≡ get_or self.now.heads bucket 0) × (result ≤ 1000) × Ends self.now.nexts result }
     {
         self.heads[bucket] as usize
     }
 
-    // The place of the next block of its bucket.
+    // The place of the next block of its bucket. On a walk that ends, what is left of it does.
     pub fn next(&self, at: usize) -> usize
         requires { (0 < at) × (at ≤ 1000) }
-        ensures { (result ≡ get_or self.now.nexts (at - 1) 0) × (result ≤ 1000) }
+        ensures { (result ≡ get_or self.now.nexts (at - 1) 0) × (Ends self.now.nexts at → Ends self.now.nexts result × (result ≤ 1000)) }
     {
         self.nexts[at - 1] as usize
     }
@@ -58,7 +59,7 @@ impl Buckets {
 
     // The same, from a place on along its bucket.
     pub fn find_from<F: Fn(usize) -> bool>(&self, from: usize, test: F) -> usize
-        requires { (from ≤ 1000) × ((i : ℕ) → i < 1000 → F.pre test i) }
+        requires { Ends self.now.nexts from × ((i : ℕ) → i < 1000 → F.pre test i) }
         ensures { Finds self.now.nexts (F.post test) from result × (result ≤ 1000) }
     {
         let mut at = from;

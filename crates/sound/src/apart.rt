@@ -4,7 +4,7 @@ ghost use Rattle.laws.specs.Tests.{neg};
 ghost use Rattle.laws.specs.Lists.{every, apart};
 ghost use Rattle.laws.specs.Cut.{cut};
 ghost use Rattle.paper.specs.Sound.{same_sender, same_series};
-ghost use Rattle.index.specs.Linked.{Links};
+ghost use Rattle.index.specs.Linked.{Nexts};
 ghost use Rattle.sound.specs.Used.{clashes};
 ghost use Rattle.sound.specs.Links.{id_tag, key_tag, in_group, Tagged};
 
@@ -46,7 +46,7 @@ fn clashes_at(us: &[u8], tags: &[Tag; 1000], tag: Tag, i: usize, j: usize) -> bo
 
 // Block i clashes with none behind it: only those of its own group could.
 fn clear_of_later(us: &[u8], buckets: &Buckets, tags: &[Tag; 1000], i: usize) -> bool
-    requires { Links in_group (cut 512 us.now) 0 buckets.now.heads buckets.now.nexts × Tagged (cut 512 us.now) (length us.now / 512) tags.now × (length us.now / 512 ≤ 1000) × (i < length us.now / 512) }
+    requires { Nexts in_group (cut 512 us.now) 0 buckets.now.nexts × Tagged (cut 512 us.now) (length us.now / 512) tags.now × (length us.now / 512 ≤ 1000) × (i < length us.now / 512) }
     ensures { result ≡ every (λ y. neg (clashes (get_or (cut 512 us.now) i []) y)) (drop (i + 1) (cut 512 us.now)) }
 {
     let tag = tags[i];
@@ -55,7 +55,7 @@ fn clear_of_later(us: &[u8], buckets: &Buckets, tags: &[Tag; 1000], i: usize) ->
 }
 
 pub fn blocks_apart(us: &[u8], buckets: &Buckets, tags: &[Tag; 1000]) -> bool
-    requires { Links in_group (cut 512 us.now) 0 buckets.now.heads buckets.now.nexts × Tagged (cut 512 us.now) (length us.now / 512) tags.now × (length us.now / 512 ≤ 1000) }
+    requires { Nexts in_group (cut 512 us.now) 0 buckets.now.nexts × Tagged (cut 512 us.now) (length us.now / 512) tags.now × (length us.now / 512 ≤ 1000) }
     ensures { result ≡ apart clashes (cut 512 us.now) }
 {
     let mut ok = true;

@@ -1,5 +1,5 @@
--- The block before those that are linked is put first in its bucket, or left out.
-use Rattle.std.specs.Prelude.{◌≡◌, true, ℕ, ◌+◌, ◌-◌, ◌<◌, set, get_or, length}
+-- The block before those that are linked is put first in its bucket, or left out; and a walk goes on, and ends.
+use Rattle.std.specs.Prelude.{◌≡◌, true, ℕ, zero, suc, ◌+◌, ◌-◌, ◌≤◌, ◌<◌, set, get_or, length}
 use Rattle.std.proofs.Math.Path.{refl, sym}
 use Rattle.std.proofs.Common.{◌∙◌, arith, get_or-set_same}
 use mathlib.Core.List.{List}
@@ -8,7 +8,7 @@ use Rattle.laws.specs.Tests.{is}
 use Rattle.laws.specs.Tests.Laws.{split, is_yes, is_no}
 use Rattle.laws.specs.Lists.Each.{all_imply, every_all, all_get_or}
 use Rattle.paper.specs.Layout.{zeros}
-use Rattle.index.specs.Ahead.{Behind}
+use Rattle.index.specs.Ahead.{Behind, following, along, Stands, Ends, AllEnd}
 
 none_at : (h : List ℕ) → zeros h ≡ true → (g : ℕ) → get_or h g 0 ≡ 0
 unfolding zeros
@@ -52,3 +52,50 @@ module _ (k : ℕ) (h n : List ℕ) {m : ℕ} (e : 0 < m) (z : k ≡ m - 1) (a :
         let y = a.3 j (λ r. c (q ∙ r)) in
         omega (arith, q, y)),
   )
+
+-- ---- a walk along the links
+
+module _ (n : List ℕ) where
+  -- it ends where each of its places is of a kind at which it stands, and the place behind is of that kind too
+  pub ends_by : (kind : ℕ → Type 0) → ((at : ℕ) → kind at → Stands n at × kind (following n at)) → (at : ℕ) → kind at → Ends n at
+  unfolding along
+  ends_by kind f at a zero = (f at a).0
+  ends_by kind f at a (suc k) = ends_by kind f (following n at) (f at a).1 k
+
+  pub ends_most : (at : ℕ) → Ends n at → at ≤ 1000
+  unfolding along
+  ends_most at e = (e 0).0
+
+  ends_on : (at : ℕ) → Ends n at → Ends n (following n at)
+  unfolding along
+  ends_on at e k = e (suc k)
+
+  further_on : (at : ℕ) → Ends n at → (following n at ≡ 0 → ⊥) → at < following n at
+  unfolding along
+  further_on at e = (e 0).1
+
+  next_is : (at m : ℕ) → (at ≡ 0 → ⊥) → m ≡ get_or n (at - 1) 0 → m ≡ following n at
+  unfolding following
+  next_is zero m c q = absurd (c refl)
+  next_is (suc j) m c q = let z : suc j - 1 ≡ j = omega arith in rw z at q
+
+  -- a step further it ends too
+  module _ (at : ℕ) (e : Ends n at) (c : at ≡ 0 → ⊥) {m : ℕ} (q : m ≡ get_or n (at - 1) 0) where
+    pub ends_next : Ends n m
+    ends_next = let z = next_is at m c q in rw z (ends_on at e)
+
+    pub next_further : (m ≡ 0 → ⊥) → at < m
+    next_further = let z = next_is at m c q in rw z (further_on at e)
+
+-- where all that is linked stands behind, every walk ends
+module _ (i : ℕ) (h n : List ℕ) (a : Behind i h n) where
+  steps_behind : (at : ℕ) → at ≤ 1000 → Stands n at × (following n at ≤ 1000)
+  unfolding following
+  steps_behind zero w = ((w, λ c. absurd (c refl)), w)
+  steps_behind (suc j) w = ((w, λ c. let y = a.3 j c in omega (arith, y)), a.2 j)
+
+  pub behind_ends : (at : ℕ) → at ≤ 1000 → Ends n at
+  behind_ends = ends_by n (λ at. at ≤ 1000) steps_behind
+
+  pub behind_all_end : AllEnd h n
+  behind_all_end g few = behind_ends (get_or h g 0) (a.0 g)

@@ -20,7 +20,8 @@ use Rattle.paper.specs.Layout.{Block, zeros, pair}
 use Rattle.paper.specs.Book.{is_series, is_series_of, id_is}
 use Rattle.facts.specs.Keys.{key_is_yes, key_parties_agreement}
 use Rattle.facts.specs.Pairs.{trade_pair}
-use Rattle.index.specs.Ahead.{Ahead}
+use Rattle.index.specs.Ahead.{following, Stands, Ends, AllEnd}
+use Rattle.index.specs.Ahead.Laws.{ends_by, ends_most, next_further}
 use Rattle.index.specs.declared.By.{By}
 use Rattle.index.specs.declared.By.TheVariants.{Id, Key, Trade}
 use Rattle.index.specs.Linked.{bucket, hashed, alike, own_in, series_in, Heads, Nexts, Links, Told, Search, Finds, own_with, FoundBy}
@@ -70,13 +71,13 @@ left_most zero h = omega arith
 left_most (suc n) h = omega arith
 
 -- a step further is nearer to the end
-pub nearer : (h n : List ℕ) → Ahead h n → (at m : ℕ) → (at ≡ 0 → ⊥) → at ≤ 1000 → m ≡ get_or n (at - 1) 0 → left m < left at
+pub nearer : (n : List ℕ) (at m : ℕ) → Ends n at → (at ≡ 0 → ⊥) → m ≡ get_or n (at - 1) 0 → left m < left at
 unfolding left
-nearer h n a zero m c d e = absurd (c refl)
-nearer h n a (suc j) zero c d e = omega arith
-nearer h n a (suc j) (suc m) c d e = let z : suc j - 1 ≡ j = omega arith in
-    let q : suc m ≡ get_or n j 0 = rw z at e in
-    let u : j + 1 < get_or n j 0 = a.3 j (λ w. absurd (omega (arith, q, w))) in
+nearer n zero m a c e = absurd (c refl)
+nearer n (suc j) zero a c e = let q = ends_most n (suc j) a in omega (arith, q)
+nearer n (suc j) (suc m) a c e =
+    let q = ends_most n (suc j) a in
+    let u = next_further n (suc j) a c e (λ w. absurd (omega (arith, w))) in
     omega (arith, q, u)
 
 -- ---- a search: the first that passes q is sought among the blocks linked by p
@@ -115,18 +116,50 @@ module _ (nexts : List ℕ) (gives : ℕ → Bool → Type 0) (start : ℕ) wher
           record { walk = f.walk; later = λ c. omega (arith, b.later n, f.later c) }
 
 -- in a bucket
-pub in_bucket : (p : ℕ → Block → Bool) (l : List Block) (h n : List ℕ) → Links p l 0 h n → (g : ℕ) (q : Block → Bool) (gives : ℕ → Bool → Type 0) (t : ℕ) → ((x : Block) → q x ≡ true → p g x ≡ true)
+pub in_bucket : (p : ℕ → Block → Bool) (l : List Block) (n : List ℕ) → Nexts p l 0 n → (g : ℕ) (q : Block → Bool) (gives : ℕ → Bool → Type 0) (t : ℕ) → ((x : Block) → q x ≡ true → p g x ≡ true)
     → ((j : ℕ) (b : Bool) → j < length l → gives j b → b ≡ q (get_or l j [])) → Search n gives l (p g) q t
 unfolding Nexts
-in_bucket p l h n a g q gives t f told = record { along = λ j c d e. a.go_on j (omega arith) d g e; linked = f; told = told }
+in_bucket p l n a g q gives t f told = record { along = λ j c d e. a j (omega arith) d g e; linked = f; told = told }
 
-pub next_of : (p : ℕ → Block → Bool) (l : List Block) (h n : List ℕ) → Links p l 0 h n → (g j : ℕ) → j < length l → p g (get_or l j []) ≡ true → get_or n j 0 ≡ place_from (j + 1) (p g) (drop (j + 1) l)
+pub next_of : (p : ℕ → Block → Bool) (l : List Block) (n : List ℕ) → Nexts p l 0 n → (g j : ℕ) → j < length l → p g (get_or l j []) ≡ true → get_or n j 0 ≡ place_from (j + 1) (p g) (drop (j + 1) l)
 unfolding Nexts
-next_of p l h n a g j d e = a.go_on j (omega arith) d g e
+next_of p l n a g j d e = a j (omega arith) d g e
 
 pub first_of : (p : ℕ → Block → Bool) (l : List Block) (h n : List ℕ) → Links p l 0 h n → (g : ℕ) → g < 1024 → get_or h g 0 ≡ place_from 0 (p g) (drop 0 l)
 unfolding Heads
 first_of p l h n a g c = a.begin g c
+
+-- ---- of at most 1,000 blocks, each walk along the links ends
+
+module _ (p : ℕ → Block → Bool) (l : List Block) (n : List ℕ) (a : Nexts p l 0 n) (few : length l ≤ 1000) where
+  -- the place of the first that is linked in g, from some block on
+  abbrev Placed : (g at : ℕ) → Type 0
+  Placed g at = (t : ℕ) × (at ≡ place_from t (p g) (drop t l))
+
+  placed : (g t at : ℕ) → at ≡ place_from t (p g) (drop t l) → From (p g) (λ k. place_from k (p g)) 0 l at t at
+  placed g t at e = from (p g) (λ k. place_from k (p g)) 0 (sought (p g) (p g) (λ x u. u)) l at t at e e
+
+  placed_stands : (g at : ℕ) → Placed g at → Stands n at × Placed g (following n at)
+  unfolding following
+  placed_stands g zero b = ((omega arith, λ c. absurd (c refl)), b)
+  placed_stands g (suc j) b =
+      let o = (placed g b.0 (suc j) b.1).walk in
+      let z : suc j - 1 ≡ j = omega arith in
+      let i : j < length l = rw z at (o.inside (λ c. absurd (omega (arith, c)))) in
+      let y : p g (get_or l j []) ≡ true = rw z at (o.linked (λ c. absurd (omega (arith, c)))) in
+      let q = next_of p l n a g j i y in
+      ((omega (arith, i, few), λ c. let w = (placed g (j + 1) (get_or n j 0) q).later c in omega (arith, c, w)), (j + 1, q))
+
+  placed_ends : (g at : ℕ) → Placed g at → Ends n at
+  placed_ends g = ends_by n (Placed g) (placed_stands g)
+
+  -- one that begins at the next of a block
+  pub next_ends : (g i : ℕ) → i < length l → p g (get_or l i []) ≡ true → Ends n (get_or n i 0)
+  next_ends g i d e = placed_ends g (get_or n i 0) (i + 1, next_of p l n a g i d e)
+
+-- one that begins at a head
+pub links_end : (p : ℕ → Block → Bool) (l : List Block) (h n : List ℕ) → Links p l 0 h n → length l ≤ 1000 → AllEnd h n
+links_end p l h n a few g c = placed_ends p l n a.go_on few g (get_or h g 0) (0, first_of p l h n a g c)
 
 -- ---- a bucket counted: n blocks of it are passed by
 

@@ -4,7 +4,7 @@ use Rattle.laws.specs.Kit.{arith, refl, ◌∙◌, length-set, replicate, ◌and
 use Rattle.laws.specs.Lists.{every}
 use Rattle.laws.specs.Cut.Laws.{cut_length}
 use Rattle.paper.specs.Layout.{zeros}
-use Rattle.index.specs.Ahead.Laws.{behind_none, behind_left, behind_put}
+use Rattle.index.specs.Ahead.Laws.{behind_none, behind_left, behind_put, behind_all_end}
 use Rattle.index.specs.Linked.Laws.{none, left_out, put, call_at, all_linked}
 use Rattle.index.proofs.buckets.link.Given.{Over}
 use Rattle.index.proofs.buckets.link.Goals as goal
@@ -55,3 +55,6 @@ loop-i-preserved g c =
 
 pub returns : goal.returns
 returns g c = λ p t. all_linked _ _ _ _ _ c.loop-i-test.false (c.loop-i.invariant.3 p t)
+
+pub invariant_of-result : goal.invariant_of-result
+invariant_of-result g c = record { ends = behind_all_end _ _ _ c.loop-i.invariant.0 }
