@@ -59,12 +59,9 @@ impl Fault {
     }
 }
 
-// A fault, and the file that it is one of.
+// A line has said what stands in the way, where it was met and before any file is removed for it.
 #[derive(Clone, Copy)]
-pub struct Failure<'a> {
-    path: &'a [u8],
-    fault: Fault,
-}
+struct Failed;
 
 // What cannot be written is not said.
 pub fn say(rt: &impl Print, text: &[u8]) {
@@ -72,16 +69,11 @@ pub fn say(rt: &impl Print, text: &[u8]) {
 }
 
 // A line on what stands in the way, which is no answer of document 01's.
-fn say_fault(rt: &impl Print, path: &[u8], fault: Fault) {
+fn say_fault(rt: &impl Print, path: &[u8], fault: Fault) -> Failed {
     say(rt, b"failed: ");
     say(rt, path);
     say(rt, fault.text());
-}
-
-fn say_failure(rt: &impl Print, outcome: Result<(), Failure>) {
-    if let Err(failure) = outcome {
-        say_fault(rt, failure.path, failure.fault);
-    }
+    Failed
 }
 
 // The system's files have their paths as text: bytes that are no UTF-8 name no file that can be opened or made.
@@ -130,9 +122,14 @@ fn load_from(file: &mut impl Read, room: &mut [u8], too_long: Fault) -> Result<u
     }
 }
 
-fn load(rt: &impl Files, path: &[u8], room: &mut [u8], too_long: Fault) -> Result<usize, Fault> {
-    let mut file = open(rt, path).map_err(not_opened)?;
-    load_from(&mut file, room, too_long)
+fn load<R: Files + Print>(
+    rt: &R,
+    path: &[u8],
+    room: &mut [u8],
+    too_long: Fault,
+) -> Result<usize, Failed> {
+    let mut file = open(rt, path).map_err(|e| say_fault(rt, path, not_opened(e)))?;
+    load_from(&mut file, room, too_long).map_err(|fault| say_fault(rt, path, fault))
 }
 
 // A file read into room of N bytes and handed on, or a line that says why not.
@@ -146,9 +143,8 @@ pub fn with_file<const N: usize, R: Files + Print, F: FnOnce(&[u8]) + Drop>(
     requires callable { F.IsAlwaysCallable then }
 {
     let mut room = [0u8; N];
-    match load(rt, path, &mut room, too_long) {
-        Ok(k) => then(part_of(&room, 0, k)),
-        Err(fault) => say_fault(rt, path, fault),
+    if let Ok(k) = load(rt, path, &mut room, too_long) {
+        then(part_of(&room, 0, k));
     }
 }
 
@@ -171,11 +167,8 @@ fn not_begun(error: Error) -> Fault {
 }
 
 // Made before the book is read, and only where it is not there yet: so no two desks change one book at a time.
-fn begin<'a, R: Files>(rt: &R, name: &'a [u8]) -> Result<R::File, Failure<'a>> {
-    create(rt, name).map_err(|e| Failure {
-        path: name,
-        fault: not_begun(e),
-    })
+fn begin<R: Files + Print>(rt: &R, name: &[u8]) -> Result<R::File, Failed> {
+    create(rt, name).map_err(|e| say_fault(rt, name, not_begun(e)))
 }
 
 // Nothing is changed.
@@ -184,11 +177,12 @@ fn abandon<R: Files>(rt: &R, file: R::File, name: &[u8]) {
     remove(rt, name);
 }
 
-// All of the book reaches the disk. What is closed behind that has nothing left to lose.
+// All of the book reaches the disk, or as much of it as could be written. What is closed behind that has nothing left to lose.
 fn write_whole<F: Write + OpenFile + Drop>(file: F, book: &[u8]) -> io::Result<()> {
     let mut file = file;
-    file.write_all(book)?;
-    file.sync_all()
+    let all = file.write_all(book);
+    let synced = file.sync_all();
+    all.and(synced)
 }
 
 fn open_folder<R: Files>(rt: &R, path: &[u8]) -> io::Result<R::File> {
@@ -203,54 +197,42 @@ fn sync_name<R: Files>(rt: &R, path: &[u8]) -> io::Result<()> {
     open_folder(rt, path)?.sync_all()
 }
 
-fn write_and_name<'a, R: Files>(
+fn write_and_name<R: Files + Print>(
     rt: &R,
     file: R::File,
-    name: &'a [u8],
-    path: &'a [u8],
+    name: &[u8],
+    path: &[u8],
     book: &[u8],
-) -> Result<(), Failure<'a>> {
-    write_whole(file, book).map_err(|_| Failure {
-        path: name,
-        fault: Fault::NotWritten,
-    })?;
-    rename(rt, name, path).map_err(|_| Failure {
-        path,
-        fault: Fault::NotNamed,
-    })
+) -> Result<(), Failed> {
+    write_whole(file, book).map_err(|_| say_fault(rt, name, Fault::NotWritten))?;
+    rename(rt, name, path).map_err(|_| say_fault(rt, path, Fault::NotNamed))
 }
 
 // The new book takes the old one's name in one step; where it can't, the old book stays. No call but one whose number is 0 has a book to keep.
-fn replace<'a, R: Files>(
+fn replace<R: Files + Print>(
     rt: &R,
     file: R::File,
-    name: &'a [u8],
-    path: &'a [u8],
+    name: &[u8],
+    path: &[u8],
     book: &[u8],
     number: usize,
-) -> Result<(), Failure<'a>>
+) -> Result<(), Failed>
     requires { number ≡ 0 }
 {
-    if let Err(failure) = write_and_name(rt, file, name, path, book) {
-        remove(rt, name);
-        return Err(failure);
-    }
-    sync_name(rt, path).map_err(|_| Failure {
-        path,
-        fault: Fault::NotKept,
-    })
+    write_and_name(rt, file, name, path, book).inspect_err(|_| remove(rt, name))?;
+    sync_name(rt, path).map_err(|_| say_fault(rt, path, Fault::NotKept))
 }
 
 // An acceptance is told once the new book has its name, a refusal once the old one is left.
-fn settle<'a, R: Files + Print>(
+fn settle<R: Files + Print>(
     rt: &R,
     file: R::File,
-    name: &'a [u8],
-    path: &'a [u8],
+    name: &[u8],
+    path: &[u8],
     told: Told,
     book: &[u8],
     line: &[u8],
-) -> Result<(), Failure<'a>> {
+) -> Result<(), Failed> {
     let number = told.number as usize;
     if number != 0 {
         abandon(rt, file, name);
@@ -262,73 +244,78 @@ fn settle<'a, R: Files + Print>(
 }
 
 // The call runs on the book in its room, and what it says decides whether the book is kept.
-fn run<'a, R: Files + Print>(
+fn run<R: Files + Print>(
     rt: &R,
     what: Change,
     file: R::File,
-    name: &'a [u8],
-    path: &'a [u8],
+    name: &[u8],
+    path: &[u8],
     book: &mut [u8],
     given: &[u8],
-) -> Result<(), Failure<'a>> {
+) -> Result<(), Failed> {
     let mut line = [0u8; 256];
     let told = desk_answers::changes::change(what, book, given, &mut line);
     settle(rt, file, name, path, told, book, &line)
 }
 
-fn room_of_new(rt: &impl Files, blocks: u32, path: &[u8], words: &[u8]) -> Result<usize, Fault> {
+fn room_of_new<R: Files + Print>(
+    rt: &R,
+    blocks: u32,
+    path: &[u8],
+    words: &[u8],
+) -> Result<usize, Failed> {
     if replaces(words) {
         return Ok(book_length(blocks));
     }
     match open(rt, path).map_err(not_opened) {
-        Ok(_) => Err(Fault::IsThere),
+        Ok(_) => Err(say_fault(rt, path, Fault::IsThere)),
         Err(Fault::Missing) => Ok(book_length(blocks)),
-        Err(fault) => Err(fault),
+        Err(fault) => Err(say_fault(rt, path, fault)),
     }
 }
 
 // An opening does not look at what stood in the file before.
-fn room_for(
-    rt: &impl Files,
+fn room_for<R: Files + Print>(
+    rt: &R,
     what: &Change,
     path: &[u8],
     room: &mut [u8],
     given: &[u8],
-) -> Result<usize, Fault> {
+) -> Result<usize, Failed> {
     match what {
         Change::Open(numbers) => room_of_new(rt, numbers.blocks, path, given),
         _ => load(rt, path, room, Fault::NoBook),
     }
 }
 
-fn change_in<'a, R: Files + Print>(
+fn change_in<R: Files + Print>(
     rt: &R,
     what: Change,
     file: R::File,
-    name: &'a [u8],
-    path: &'a [u8],
+    name: &[u8],
+    path: &[u8],
     room: &mut [u8],
     given: &[u8],
-) -> Result<(), Failure<'a>> {
+) -> Result<(), Failed> {
     match room_for(rt, &what, path, room, given) {
         Ok(length) => {
             let k = length.min(room.len());
             run(rt, what, file, name, path, &mut room[..k], given)
         }
-        Err(fault) => {
+        Err(Failed) => {
             abandon(rt, file, name);
-            Err(Failure { path, fault })
+            Err(Failed)
         }
     }
 }
 
-fn change_beside<'a, R: Files + Print>(
+fn change_beside<R: Files + Print>(
     rt: &R,
     what: Change,
-    name: &'a [u8],
-    path: &'a [u8],
+    name: &[u8],
+    path: &[u8],
     given: &[u8],
-) -> Result<(), Failure<'a>> {
+) -> Result<(), Failed> {
     let file = begin(rt, name)?;
     let mut room = [0u8; 512512];
     change_in(rt, what, file, name, path, &mut room, given)
@@ -337,7 +324,7 @@ fn change_beside<'a, R: Files + Print>(
 // The one way of every change: a file is made beside the book, the book loaded, the call run, the new book kept or not, and the answer told.
 pub fn change<R: Files + Print>(rt: &R, what: Change, path: &[u8], given: &[u8]) {
     with_beside(path, |name| {
-        say_failure(rt, change_beside(rt, what, name, path, given))
+        let _ = change_beside(rt, what, name, path, given);
     });
 }
 

@@ -2,7 +2,7 @@
 // Buffers have a fixed length here, since the desk has no heap.
 ghost use Rattle.std.specs.Prelude.{◌≡◌};
 
-use crate::{Failure, Fault, begin, change, replace, say_failure, with_beside, with_file};
+use crate::{Failed, Fault, begin, change, replace, with_beside, with_file};
 use desk_answers::Change;
 use desk_text::words::word;
 use std::rt::Files;
@@ -22,13 +22,13 @@ fn made(rt: &impl Print, length: usize) {
     let _ = println!(rt; "accepted: a message of {length} bytes");
 }
 
-fn write_message<'a, R: Files + Print>(
+fn write_message<R: Files + Print>(
     rt: &R,
-    path: &'a [u8],
-    name: &'a [u8],
+    path: &[u8],
+    name: &[u8],
     message: &[u8],
     line: usize,
-) -> Result<(), Failure<'a>>
+) -> Result<(), Failed>
     requires { line ≡ 0 }
 {
     let file = begin(rt, name)?;
@@ -47,7 +47,7 @@ fn message_in<R: Files + Print>(rt: &R, path: &[u8], text: &[u8], room: &mut [u8
     let k = read.length.min(room.len());
     let message = &room[..k];
     with_beside(path, |name| {
-        say_failure(rt, write_message(rt, path, name, message, read.line))
+        let _ = write_message(rt, path, name, message, read.line);
     });
 }
 
