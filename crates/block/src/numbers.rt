@@ -101,12 +101,13 @@ pub fn write_4(s: &mut [u8], at: usize, x: u32)
     }
 }
 
-// Over the first bytes, as far as both rows go.
+// Over the first bytes, as far as both rows go. Byte by byte, since the library's copy takes the C library's `memmove`, which front ends need not have.
 fn write_first(s: &mut [u8], v: &[u8])
     ensures { s.new ≡ written 0 v.now s.old }
 {
-    let n = s.len().min(v.len());
-    s[..n].copy_from_slice(&v[..n]);
+    for i in 0..s.len().min(v.len()) {
+        s[i] = v[i];
+    }
 }
 
 pub fn write_bytes(s: &mut [u8], at: usize, v: &[u8])

@@ -1,16 +1,14 @@
 -- Laws of a text that is put, of its pieces passed by, and of the command that a word names.
-use borrow.Rule.Slice.PartMut.{put_mid}
-use Rattle.std.specs.Prelude.{◌≡◌, ◌∷◌, ◌++◌, ◌+◌, ◌-◌, ◌≤◌, ◌<◌, ◌≢◌, Option, None, Some}
+use Rattle.std.specs.Prelude.{◌≡◌, ◌∷◌, ◌+◌, ◌-◌, ◌≤◌, ◌<◌, ◌≢◌, Option, None, Some}
 use Rattle.std.specs.List.{find}
 use Rattle.std.specs.Option.{option_map}
-use Rattle.laws.specs.Kit.{refl, sym, ap, ◌∙◌, Bool, true, false, cond, List, [], ℕ, zero, suc, min, add-one, arith, length, take, drop, get_or, drop_of_length-le, drop-cons, drop-drop, is, is_equal, is_other}
-use Rattle.laws.specs.Base.{append_assoc, length-append, length-drop, length-take-le, take-append-drop, take_all}
+use Rattle.laws.specs.Kit.{refl, sym, ap, ◌∙◌, Bool, true, false, cond, List, [], ℕ, zero, suc, min, add-one, arith, length, drop, get_or, set, drop_of_length-le, drop-cons, is, is_equal, is_other}
 use Rattle.laws.specs.Tests.{less}
 use Rattle.laws.specs.Tests.Laws.{split, less_yes, less_no}
 use Rattle.laws.specs.Lists.{same, until}
 use Rattle.paper.specs.Listing.{text}
 use Rattle.laws.specs.Bytes.{written}
-use Rattle.laws.specs.Bytes.Laws.{written_append, written_length, written_take_drop}
+use Rattle.laws.specs.Bytes.Laws.{written_none, written_cons}
 use Rattle.laws.specs.Slices.{written_past}
 use Rattle.desk_text.specs.Put.{Put, within}
 use Rattle.desk_text.specs.Put.Laws.{then_text}
@@ -26,30 +24,24 @@ pub within_min : (a b : ℕ) → min a b ≡ within a b
 unfolding within less
 within_min a b = grind arith
 
--- what would fall past the end is left out
-cut_short : (o n : ℕ) (s b : List ℕ) → n ≤ length s → length b ≤ o + n → written o s b ≡ written o (take n s) b
-cut_short o n s b h l =
-    let k : length (take n s) ≡ n = length-take-le n s h in
-    ap (λ p. written o p b) (sym (take-append-drop n s)) ∙ written_append o (take n s) (drop n s) b
-    ∙ written_past (o + length (take n s)) (drop n s) (written o (take n s) b) (omega (arith, written_length o (take n s) b))
+-- what is still to be put, over the line as it stands, gives what all of it gives over the line as it came
+module _ (s b : List ℕ) (start i : ℕ) where
+  pub put_turn : {t : List ℕ} → i < length s → written (start + i) (drop i s) b ≡ t → written (start + (i + 1)) (drop (i + 1) s) (set b (start + i) (get_or s i 0)) ≡ t
+  put_turn h e =
+      let next : start + (i + 1) ≡ start + i + 1 = omega arith in
+      rw (next, add-one i) (sym (written_cons (start + i) (get_or s i 0) (drop (suc i) s) b)) ∙ ap (λ l. written (start + i) l b) (sym (drop-cons s i 0 h)) ∙ e
 
-pub put_cut : (at start n : ℕ) (s x : List ℕ) {y : List ℕ} → start ≡ min at (length x) → n ≡ min (length s) (length x - start) → y ≡ take n s
-    → Put at s (start + n) x (put_mid start (start + n - start) x y)
-put_cut at start n s x {y} e f g =
-    let k : length (take n s) ≡ n = length-take-le n s (omega arith) in
-    let cut : written start s x ≡ written start (take n s) x =
-    split (less n (length s))
-    (λ t. let l : n < length s = less_yes n (length s) t in cut_short start n s x (omega arith) (omega arith))
-    (λ t. let l : length s ≤ n = less_no n (length s) t in ap (λ p. written start p x) (sym (take_all n s l))) in
+-- behind the last byte that has room nothing is put
+pub put_all : (at start n : ℕ) (s x : List ℕ) {y : List ℕ} → start ≡ min at (length x) → n ≡ min (length s) (length x - start) → length y ≡ length x
+    → written (start + n) (drop n s) y ≡ written start s x → Put at s (start + n) x y
+put_all at start n s x {y} e f l g =
     let front : written start s x ≡ written at s x = ap (λ o. written o s x) (e ∙ within_min at (length x)) ∙ then_text at (length x) s x refl in
-    let q : start + n - start ≡ n = omega arith in
+    let rest : written (start + n) (drop n s) y ≡ y =
+    split (less n (length s))
+    (λ t. let k : n < length s = less_yes n (length s) t in written_past (start + n) (drop n s) y (omega arith))
+    (λ t. let k : length s ≤ n = less_no n (length s) t in rw (drop_of_length-le s {i = n} k) (written_none (start + n) y)) in
     let m : start + n ≡ min (at + length s) (length x) = omega arith in
-    let parts : written start (take n s) x ≡ take start x ++ take n s ++ drop (start + length (take n s)) x = written_take_drop start (take n s) x (omega arith) in
-    record {
-      size = m ∙ within_min (at + length s) (length x);
-      text = rw (g, q, drop-drop n start x, ← append_assoc (take start x) (take n s) (drop (start + n) x)) (sym (rw k at parts)) ∙ sym cut ∙ front;
-      fits = rw (length-append, length-append, length-drop, length-drop, length-take-le start x (omega arith)) (omega (arith, ap length g));
-    }
+    record { size = m ∙ within_min (at + length s) (length x); text = sym rest ∙ g ∙ front; fits = omega (arith, l) }
 
 -- ---- pieces
 
@@ -59,16 +51,15 @@ drop_inside k n s e =
     (λ t. let l : length s < k = less_yes (length s) k t in drop_of_length-le s {i = n} (omega arith) ∙ sym (drop_of_length-le s {i = k} (omega arith)))
     (λ t. let l : k ≤ length s = less_no (length s) k t in let q : n ≡ k = omega arith in ap (λ m. drop m s) q)
 
--- k pieces in all, i of which are passed
+pub pieces_turn : (end left : ℕ) (x y : List ℕ) {t : List ℕ} → 0 < left → y ≡ past_piece end x → past_pieces end left x ≡ t → past_pieces end (left - 1) y ≡ t
+unfolding past_pieces
+pieces_turn end zero x y h e p = absurd (omega arith)
+pieces_turn end (suc k) x y h e p = let q : suc k - 1 ≡ k = omega arith in rw (q, e) p
 
-module _ (end k i : ℕ) (x : List ℕ) where
-  pub pieces_turn : (y : List ℕ) {t : List ℕ} → i < k → y ≡ past_piece end x → past_pieces end (k - i) x ≡ t → past_pieces end (k - (i + 1)) y ≡ t
-  unfolding past_pieces
-  pieces_turn y h e p = let q : k - i ≡ suc (k - (i + 1)) = omega arith in rw e (rw q at p)
-
-  pub pieces_end : {t : List ℕ} → k ≤ i → past_pieces end (k - i) x ≡ t → x ≡ t
-  unfolding past_pieces
-  pieces_end h p = let q : k - i ≡ zero = omega arith in rw q at p
+pub pieces_end : (end left : ℕ) (x : List ℕ) {t : List ℕ} → left ≤ 0 → past_pieces end left x ≡ t → x ≡ t
+unfolding past_pieces
+pieces_end end zero x h p = p
+pieces_end end (suc k) x h p = absurd (omega arith)
 
 -- ---- the command that a word names: the list of the program goes through the words of the definition in its order
 

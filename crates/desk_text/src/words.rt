@@ -13,12 +13,15 @@ fn past_piece(s: &[u8], end: u8) -> &[u8]
     &s[behind.min(s.len())..]
 }
 
+// What is still to be passed is counted down: by it the loop is proved to end.
 fn past_pieces(s: &[u8], end: u8, k: usize) -> &[u8]
     ensures { result.now ≡ past_pieces end k s.now }
 {
     let mut rest = s;
-    for _ in 0..k {
+    let mut left = k;
+    while 0 < left {
         rest = past_piece(rest, end);
+        left -= 1;
     }
     rest
 }

@@ -28,11 +28,36 @@ pub fn within(n: usize, buffer: &[u8]) -> usize
     n.min(buffer.len())
 }
 
-// The one comparison of fields: of ids, codes, pairs of parties, days, quantities.
+// Looks at every byte, whatever it finds: so several go in one step of the machine.
+fn same_bytes(a: &[u8], b: &[u8]) -> bool
+    requires { length a.now ≡ length b.now }
+    ensures { result ≡ same a.now b.now }
+{
+    let mut ok = true;
+    for i in 0..a.len() {
+        ok = ok & (a[i] == b[i]);
+    }
+    ok
+}
+
+// The one comparison of fields: of ids, codes, pairs of parties, days, quantities. Sixteen bytes at a time, since ids and codes have
+// as many; it stops at the first sixteen that differ. The library's comparison is never laid into a loop, which all searches feel.
+#[inline(always)]
 pub fn same(a: &[u8], b: &[u8]) -> bool
     ensures { result ≡ same a.now b.now }
 {
-    a == b
+    if a.len() != b.len() {
+        return false;
+    }
+    let whole = a.len() / 16;
+    for k in 0..whole {
+        let at = 16 * k;
+        if !same_bytes(&a[at..at + 16], &b[at..at + 16]) {
+            return false;
+        }
+    }
+    let end = 16 * whole;
+    same_bytes(&a[end..], &b[end..])
 }
 
 // For the bytes that the layout shows as 0, and for free slots, up to hundreds of thousands at a time: it looks at every byte, whatever it finds, so

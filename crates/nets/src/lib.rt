@@ -21,6 +21,8 @@ use layout::{in_area, in_party, nets, out_area, out_party, quantity, sender};
 use slots::{is_external, is_sender, is_series_of, slot_of};
 
 // The sums, each changed by the quantity at its position, which is read by its number too. A net is kept by its remainder by 2 to the 32, so sums may wrap round.
+// Laid into the loop over blocks, as the three functions below are: there it is known how long sums and block are, and several positions go in one step.
+#[inline(always)]
 fn change_sums<F: Fn(u32, u32) -> u32>(sums: &mut [u32], x: &[u8], change: F)
     requires hundred { length sums.old ≡ 100 }
     requires callable { F.IsAlwaysCallable change }
@@ -55,6 +57,7 @@ fn goes_out(ours: &[u8], e: &[u8], x: &[u8]) -> bool
 }
 
 // What a series counts as is asked here, before the positions are gone through.
+#[inline(always)]
 fn add_bought(sums: &mut [u32], ours: &[u8], e: &[u8], x: &[u8])
     requires { length sums.old ≡ 100 }
     ensures { Raised 100 (bought_share ours.now e.now x.now) sums.old sums.new }
@@ -65,6 +68,7 @@ fn add_bought(sums: &mut [u32], ours: &[u8], e: &[u8], x: &[u8])
 }
 
 // The other side: what is sold, or leaves the area, lowers the net.
+#[inline(always)]
 fn subtract_sold(sums: &mut [u32], ours: &[u8], e: &[u8], x: &[u8])
     requires { length sums.old ≡ 100 }
     ensures { Raised 100 (sold_share ours.now e.now x.now) sums.old sums.new }
@@ -75,6 +79,7 @@ fn subtract_sold(sums: &mut [u32], ours: &[u8], e: &[u8], x: &[u8])
 }
 
 // No series of an accepted message counts on both sides; one that did would add as much as it takes away.
+#[inline(always)]
 fn add_series(sums: &mut [u32], ours: &[u8], e: &[u8], x: &[u8])
     requires { length sums.old ≡ 100 }
     ensures { Raised 100 (share ours.now e.now x.now) sums.old sums.new }

@@ -108,6 +108,7 @@ pub fn is_series_of(b: &[u8], slot: Slot) -> bool
     is_series(b) & (senders_slot(b) == slot)
 }
 
+#[inline(always)]
 pub fn is_sender_block_of(b: &[u8], e: &[u8]) -> bool
     ensures { result ≡ is_sender_block_of e.now b.now }
 {
