@@ -8,6 +8,10 @@ Behind i heads nexts =
     ((g : ℕ) → get_or heads g 0 ≤ 1000) × ((g : ℕ) → (get_or heads g 0 ≡ 0 → ⊥) → i < get_or heads g 0)
     × ((j : ℕ) → get_or nexts j 0 ≤ 1000) × ((j : ℕ) → (get_or nexts j 0 ≡ 0 → ⊥) → j + 1 < get_or nexts j 0)
 
+-- those of all blocks, also where no walk comes to
+abbrev pub Ahead : (heads nexts : List ℕ) → Type 0
+Ahead heads nexts = Behind 0 heads nexts
+
 -- ---- a walk along the links
 
 -- the place behind a place

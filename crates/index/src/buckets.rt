@@ -3,7 +3,7 @@ ghost use Rattle.std.specs.Prelude.{◌≡◌, Bool, List, ℕ, ◌-◌, ◌/◌
 ghost use Rattle.std.specs.Fn.{FnReturnsAt};
 ghost use Rattle.laws.specs.Lists.{count};
 ghost use Rattle.paper.specs.Layout.{Block};
-ghost use Rattle.index.specs.Ahead.{Ends, AllEnd};
+ghost use Rattle.index.specs.Ahead.{Ahead, Ends, AllEnd};
 ghost use Rattle.index.specs.Linked.{Links, Named, LinkedAs, Finds, FindsIn};
 
 use slots::block_at;
@@ -74,9 +74,11 @@ impl Buckets {
 }
 
 // From the last block back: what was its bucket's first block is now the second. `bucket_of` names the bucket of a block, if it is to be linked.
+// Of what it gives a walk ends from whatever place of at most 1,000 it begins (`behind_ends`).
 pub fn link<F: Fn(&[u8]) -> Option<usize>>(us: &[u8], bucket_of: F) -> Buckets
     requires { (length us.now / 512 ≤ 1000) × F.IsAlwaysCallable bucket_of × Named (FnReturnsAt F.Fn bucket_of) us.now }
-    ensures { LinkedAs (FnReturnsAt F.Fn bucket_of) us.now 0 result.heads result.nexts }
+    ensures links { LinkedAs (FnReturnsAt F.Fn bucket_of) us.now 0 result.heads result.nexts }
+    ensures ahead { Ahead result.heads result.nexts }
 {
     let mut heads = [0; 1024];
     let mut nexts = [0; 1000];

@@ -8,6 +8,7 @@ ghost use Rattle.std.specs.Fn.{FnReturnsAt};
 ghost use Rattle.laws.specs.Lists.{place};
 ghost use Rattle.laws.specs.Cut.{cut};
 ghost use Rattle.paper.specs.Layout.{Block};
+ghost use Rattle.index.specs.Ahead.{Ahead};
 ghost use Rattle.index.specs.Linked.{bucket, hashed, alike, own_in, series_in, Links, Told, own_with, FoundBy, Found};
 
 use field::same;
@@ -79,7 +80,8 @@ fn own_bucket(x: &[u8], slot: Slot, by: By) -> Option<usize>
 // The series of the sender in a slot.
 pub fn link_own(us: &[u8], slot: Slot, by: By) -> Buckets
     requires { length us.now / 512 ≤ 1000 }
-    ensures { Links (own_in slot.0 by) (cut 512 us.now) 0 result.heads result.nexts }
+    ensures links { Links (own_in slot.0 by) (cut 512 us.now) 0 result.heads result.nexts }
+    ensures ahead { Ahead result.heads result.nexts }
 {
     link(us, |x| own_bucket(x, slot, by))
 }
@@ -131,7 +133,31 @@ fn series_bucket(x: &[u8]) -> Option<usize>
 // All series, whosever they are, by their pair.
 pub fn link_series(us: &[u8]) -> Buckets
     requires { length us.now / 512 ≤ 1000 }
-    ensures { Links series_in (cut 512 us.now) 0 result.heads result.nexts }
+    ensures links { Links series_in (cut 512 us.now) 0 result.heads result.nexts }
+    ensures ahead { Ahead result.heads result.nexts }
 {
     link(us, |x| series_bucket(x))
+}
+
+#[cfg(test)]
+mod tests {
+    use super::*;
+
+    // The first and the third of three blocks are alike, and the second is of no bucket: nothing leads from a block on but from the first to the third.
+    #[test]
+    fn third_behind_first(rt: HostRuntime) {
+        let mut us = [0; 1536];
+        for i in [0, 1024] {
+            us[i] = 2;
+            us[i + 6] = 1;
+        }
+        let mut heads = [0; 1024];
+        heads[bucket(pair(&us))] = 1;
+        let mut nexts = [0; 1000];
+        nexts[0] = 3;
+        for links in [link_series(&us), link_own(&us, Slot(1), By::Trade)] {
+            assert_eq!(rt; links.heads, heads);
+            assert_eq!(rt; links.nexts, nexts);
+        }
+    }
 }

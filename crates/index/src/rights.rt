@@ -4,6 +4,7 @@ ghost use Rattle.std.specs.Prelude.{◌≡◌, ◌/◌, ◌≤◌, ◌<◌, leng
 ghost use Rattle.laws.specs.Lists.{place};
 ghost use Rattle.laws.specs.Cut.{cut};
 ghost use Rattle.paper.specs.Rules.{names};
+ghost use Rattle.index.specs.Ahead.{Ahead};
 ghost use Rattle.index.specs.Linked.{Links, Told};
 ghost use Rattle.index.specs.Rights.{right_in, is_right_for, FoundRights};
 
@@ -23,7 +24,8 @@ fn right_bucket(x: &[u8], e: &[u8]) -> Option<usize>
 // All rights that e holds.
 fn link_rights(us: &[u8], e: &[u8]) -> Buckets
     requires { length us.now / 512 ≤ 1000 }
-    ensures { Links (right_in e.now) (cut 512 us.now) 0 result.heads result.nexts }
+    ensures links { Links (right_in e.now) (cut 512 us.now) 0 result.heads result.nexts }
+    ensures ahead { Ahead result.heads result.nexts }
 {
     link(us, |x| right_bucket(x, e))
 }

@@ -2,6 +2,7 @@
 // of any two of a group, or of a group's number, is found without a look at any other block.
 ghost use Rattle.std.specs.Prelude.{◌≡◌, ◌==◌, ◌||◌, ◌/◌, ◌≤◌, length};
 ghost use Rattle.laws.specs.Cut.{cut};
+ghost use Rattle.index.specs.Ahead.{Ahead};
 ghost use Rattle.index.specs.Linked.{Links};
 ghost use Rattle.sound.specs.Links.{wide_tag, key_tag, id_tag, Tagged, group, in_group, Grouped};
 
@@ -56,7 +57,8 @@ fn group_of(b: &[u8]) -> usize
 // Each block in the bucket of its group.
 pub fn link_groups(us: &[u8]) -> Buckets
     requires { (length us.now / 512 ≤ 1000) × Grouped (cut 512 us.now) }
-    ensures { Links in_group (cut 512 us.now) 0 result.heads result.nexts }
+    ensures links { Links in_group (cut 512 us.now) 0 result.heads result.nexts }
+    ensures ahead { Ahead result.heads result.nexts }
 {
     link(us, |b| Some(group_of(b)))
 }

@@ -12,7 +12,7 @@ loop-i-init c = (omega arith, done_none _ _)
 
 pub convert_block-requires : goal.convert_block-requires
 convert_block-requires c =
-    (omega arith, c.requires.0, omega arith, links_kept _ _ (cut 512 c.args.us.now) _ c.loop-i.i c.loop-i.invariant.1 _ _ c.link_series-buckets.ensures)
+    (omega arith, c.requires.0, omega arith, links_kept _ _ (cut 512 c.args.us.now) _ c.loop-i.i c.loop-i.invariant.1 _ _ c.link_series-buckets.ensures.links)
 
 pub loop-i-preserved : goal.loop-i-preserved
 loop-i-preserved c =

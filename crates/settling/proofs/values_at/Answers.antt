@@ -10,7 +10,7 @@ loop-i-init c = (valued_none _ _ _ _, search rules)
 pub value_at-requires : goal.value_at-requires
 value_at-requires c =
     let p = c.requires in
-    (p.0, p.1, c.link_series-buckets.ensures, c.loop-i-test.true, p.2)
+    (p.0, p.1, c.link_series-buckets.ensures.links, c.loop-i-test.true, p.2)
 
 pub loop-i-preserved : goal.loop-i-preserved
 loop-i-preserved c =

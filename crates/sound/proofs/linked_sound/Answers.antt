@@ -11,7 +11,7 @@ returns-else-blocks_apart c = rw (sym c.blocks_apart.ensures ∙ c.if-blocks_apa
 
 pub counts_right-requires : goal.counts_right-requires
 counts_right-requires c =
-    (c.requires.0, c.link_groups-buckets.ensures, (sym c.blocks_apart.ensures ∙ c.if-blocks_apart.true))
+    (c.requires.0, c.link_groups-buckets.ensures.links, (sym c.blocks_apart.ensures ∙ c.if-blocks_apart.true))
 
 pub returns-then-blocks_apart : goal.returns-then-blocks_apart
 unfolding linked_sound ◌and◌

@@ -17,7 +17,7 @@ loop-i-init c = looked_none _ _ _ c.requires.1 _ _ _ refl refl refl refl refl
 
 pub look-number-requires : goal.look-number-requires
 look-number-requires c =
-    (omega (arith, c.requires.0), c.requires.1, c.link_own-buckets.ensures, c.loop-i.invariant.partners_room)
+    (omega (arith, c.requires.0), c.requires.1, c.link_own-buckets.ensures.links, c.loop-i.invariant.partners_room)
 
 pub note_home-requires : goal.note_home-requires
 note_home-requires c =

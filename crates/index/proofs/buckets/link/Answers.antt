@@ -53,8 +53,8 @@ loop-i-preserved g c =
     let r = call_at g.F.Fn c.args.bucket_of c.block_at.result c.block_at.ensures c.in_default.ensures in
     (behind_left _ _ _ c.loop-i-test.true refl i.0, i.1, i.2, λ p t. left_out _ _ _ (rw (cut_length 512 _) w) _ _ c.loop-i-test.true refl (i.3 p t) (t _ _ w r))
 
-pub returns : goal.returns
-returns g c = λ p t. all_linked _ _ _ _ _ c.loop-i-test.false (c.loop-i.invariant.3 p t)
+pub returns-clause-links : goal.returns-clause-links
+returns-clause-links g c = λ p t. all_linked _ _ _ _ _ c.loop-i-test.false (c.loop-i.invariant.3 p t)
 
 pub invariant_of-result : goal.invariant_of-result
 invariant_of-result g c = record { ends = behind_all_end _ _ _ c.loop-i.invariant.0 }
